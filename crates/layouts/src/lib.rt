@@ -1,0 +1,2 @@
+// The shape of every table: what a layout means, and its answers kept once it is admitted.
+pub mod network;

@@ -1,0 +1,5 @@
+pub mod Descending
+pub mod Falling
+pub mod NeedLaws
+pub mod Adding
+pub mod Answering

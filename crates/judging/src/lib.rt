@@ -53,13 +53,13 @@ fn judge_p(percent: u64, amounts: &[u64]) -> Result<Judgement, Refusal>
 {
     let mut rule = PPercent::new(percent)?;
     let need = need_of(&mut rule, amounts)?;
-    let told = rule.told();
+    let told = rule.told;
     Ok(Judgement::P {
         percent,
         count: amounts.len(),
-        total: told.total(),
-        largest: told.largest(),
-        second: told.second_largest(),
+        total: told.total,
+        largest: told.first,
+        second: told.second,
         remainder: told.remainder(),
         need,
     })
@@ -70,12 +70,12 @@ fn judge_nk(n: u64, k: u64, amounts: &[u64]) -> Result<Judgement, Refusal>
 {
     let mut rule = NK::new(n, k)?;
     let need = need_of(&mut rule, amounts)?;
-    let told = rule.told();
+    let told = rule.told;
     Ok(Judgement::Nk {
         n,
         k,
         count: amounts.len(),
-        total: told.total(),
+        total: told.total,
         of_largest: told.of_largest(n),
         need,
     })

@@ -14,7 +14,7 @@ use refusals::Refusal;
 pub struct NK {
     n: u64,
     k: u64,
-    told: Summary,
+    pub told: Summary,
     ghost ok: { (1 ≤ n) × (n ≤ 3) × (50 ≤ k) × (k ≤ 99) },
 }
 
@@ -31,13 +31,6 @@ impl NK {
             k,
             told: Summary::empty(),
         })
-    }
-
-    // What was told so far.
-    pub fn told(&self) -> Summary
-        ensures { λ r. ⌜ r ≡ now (self .entry) .told ⌝ }
-    {
-        self.told
     }
 }
 

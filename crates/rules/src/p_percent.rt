@@ -13,7 +13,7 @@ use refusals::Refusal;
 #[derive(Clone, Copy)]
 pub struct PPercent {
     percent: u64,
-    told: Summary,
+    pub told: Summary,
     ghost ok: { (1 ≤ percent) × (percent ≤ 100) },
 }
 
@@ -29,13 +29,6 @@ impl PPercent {
             percent,
             told: Summary::empty(),
         })
-    }
-
-    // What was told so far.
-    pub fn told(&self) -> Summary
-        ensures { λ r. ⌜ r ≡ now (self .entry) .told ⌝ }
-    {
-        self.told
     }
 }
 

@@ -3,10 +3,10 @@ ghost use Prim.Native.Nat.{_+_, _*_, _≤_};
 
 #[derive(Clone, Copy)]
 pub struct Summary {
-    pub(crate) total: u64,
-    pub(crate) first: u64,
-    pub(crate) second: u64,
-    pub(crate) third: u64,
-    pub(crate) count: usize,
+    pub total: u64,
+    pub first: u64,
+    pub second: u64,
+    pub third: u64,
+    pub count: usize,
     ghost ok: { (count ≤ 2048) × (total ≤ count * 1000000000) × (first + second + third ≤ total) },
 }

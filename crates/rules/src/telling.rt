@@ -3,8 +3,7 @@ ghost use mathlib.Core.Path.{_≡_};
 ghost use mathlib.Core.List.{List, []};
 ghost use Prim.Native.Nat.{ℕ, _≤_, min};
 ghost use lib.ListN.{length};
-ghost use Rattle.std.specs.shelf.Lists.{sum};
-ghost use Rattle.rules.specs.Largest.{n-largest, nth-largest};
+ghost use Rattle.rules.specs.Largest.{n-largest};
 ghost use Rattle.rules.specs.Needs.{remainder};
 ghost use Rattle.rules.specs.Telling.{after, verdict};
 ghost use Rattle.rules.specs.Told.{Told};
@@ -48,24 +47,6 @@ impl Summary {
             count: self.count + 1,
         };
         Ok(())
-    }
-
-    pub fn total(&self) -> u64
-        ensures { λ r. ⌜ ((xs : List ℕ) → Told (now (self .entry)) xs → r ≡ sum xs) ⌝ }
-    {
-        self.total
-    }
-
-    pub fn largest(&self) -> u64
-        ensures { λ r. ⌜ ((xs : List ℕ) → Told (now (self .entry)) xs → r ≡ nth-largest 0 xs) ⌝ }
-    {
-        self.first
-    }
-
-    pub fn second_largest(&self) -> u64
-        ensures { λ r. ⌜ ((xs : List ℕ) → Told (now (self .entry)) xs → r ≡ nth-largest 1 xs) ⌝ }
-    {
-        self.second
     }
 
     // All but the two largest.

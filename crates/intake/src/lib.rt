@@ -1,0 +1,1 @@
+// From contributions to the figures and needs of a table.

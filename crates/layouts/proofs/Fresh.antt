@@ -56,9 +56,9 @@ admitted-fresh a =
       seen = a .unseen;
       rows = same-lists (vec-items (a .memory .rows)) (replicate n blank) (long ∙ sym (length-replicate n blank))
           (λ c d h. let below : c < n = omega (arith, long) in
-            getD-default (vec-items (a .memory .rows)) c d blank h
-            ∙ blank-is (getD (vec-items (a .memory .rows)) c blank) (a .rowed c below)
-            ∙ sym (getD-replicate n c blank d below));
+          getD-default (vec-items (a .memory .rows)) c d blank h
+          ∙ blank-is (getD (vec-items (a .memory .rows)) c blank) (a .rowed c below)
+          ∙ sym (getD-replicate n c blank d below));
       marks = a .tried .0;
       table = a .tried .1;
       layer = a .reached .0;

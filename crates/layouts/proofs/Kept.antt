@@ -37,7 +37,7 @@ module _ (s t : Shape) (same : Same s t) where
   same-counts c l h e = let i = same-isLeaf l e in same .counts c l h (leaf-below s l i) (leaf-is s l i)
 
   same-count : (f g : ℕ → ℕ) → ((c : ℕ) → c < s .cells → f c ≡ g c) → (l r : ℕ) → isLeaf t l ≡ true
-    → count-below (t .cells) (λ c. t .counts c l && eqb (f c) r) ≡ count-below (s .cells) (λ c. s .counts c l && eqb (g c) r)
+      → count-below (t .cells) (λ c. t .counts c l && eqb (f c) r) ≡ count-below (s .cells) (λ c. s .counts c l && eqb (g c) r)
   same-count f g fg l r e =
       ap (λ n. count-below n (λ c. t .counts c l && eqb (f c) r)) (same .cells)
       ∙ count-same (s .cells) (λ c. t .counts c l && eqb (f c) r) (λ c. s .counts c l && eqb (g c) r) (λ c h. rw (same-counts c l h e, fg c h))

@@ -51,6 +51,6 @@ pub marks-more : (s : Shape) (l : ℕ) → values (l * s .cells) (marksOfAll s) 
 marks-more s l =
     let n = s .cells in
     ap (λ vs. values (l * n) (marksOfAll s) ++ vs)
-      (values-same n (marksOf s l) (λ c. marksOfAll s (l * n + c)) (λ c lt. rw (div-mul-add l n c lt, mod-mul-add l n c lt)))
+    (values-same n (marksOf s l) (λ c. marksOfAll s (l * n + c)) (λ c lt. rw (div-mul-add l n c lt, mod-mul-add l n c lt)))
     ∙ values-append (l * n) n (marksOfAll s)
     ∙ ap (λ m. values m (marksOfAll s)) (sym (add-mul l 1 n ∙ ap (λ m. l * n + m) (one-mul n)))

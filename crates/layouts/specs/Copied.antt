@@ -8,14 +8,14 @@ use Rattle.layouts.specs.Shape.{Shape, isLeaf}
 
 -- `under` has a row of marks for each leaf: at l * cells + c, whether the leaf l counts under the cell c.
 abbrev pub copied : ℕ → List ℕ → List ℕ → List Bool → List Bool → Shape
-copied relations leaves enters leaf under = record
-  { cells = length leaves
-  ; relations = relations
-  ; leaf = λ c. getD leaf c false
-  ; leaves = λ c. getD leaves c 0
-  ; enters = λ c. getD enters c 0
-  ; counts = λ c l. getD under (l * length leaves + c) false
-  }
+copied relations leaves enters leaf under = record {
+  cells = length leaves;
+  relations = relations;
+  leaf = λ c. getD leaf c false;
+  leaves = λ c. getD leaves c 0;
+  enters = λ c. getD enters c 0;
+  counts = λ c l. getD under (l * length leaves + c) false;
+}
 
 -- f 0, f 1, .., f (n - 1)
 abbrev pub values : {X : Type 0} → ℕ → (ℕ → X) → List X

@@ -41,7 +41,15 @@ fn get_memory(heap: Global, cells: usize, relations: usize) -> Result<Memory, Re
         heads: filled(heap, cells, 0)?,
         ends: filled(heap, cells, 0)?,
         seen: filled(heap, RECORDS, false)?,
-        rows: filled(heap, cells, Row { figure: 0, need: 0, mark: Mark::Open })?,
+        rows: filled(
+            heap,
+            cells,
+            Row {
+                figure: 0,
+                need: 0,
+                mark: Mark::Open,
+            },
+        )?,
         marks: filled(heap, cells, 0)?,
         table: filled(heap, cells, 0)?,
         layer: filled(heap, relations, 0)?,
@@ -54,9 +62,19 @@ fn copy_network<L: Layout>(heap: Global, layout: &L) -> Result<Network, Refusal>
     ensures { λ r. ⌜ Cases r (λ n. Same (shape (now (layout .entry))) (shapeOf n)) (λ e. e ≡ OutOfMemory) ⌝ }
 {
     let relations = layout.relations();
-    let Arcs { leaves, enters, leaf } = copy_arcs(heap, layout)?;
+    let Arcs {
+        leaves,
+        enters,
+        leaf,
+    } = copy_arcs(heap, layout)?;
     let under = copy_under(heap, layout)?;
-    Ok(Network { relations, leaves, enters, leaf, under })
+    Ok(Network {
+        relations,
+        leaves,
+        enters,
+        leaf,
+        under,
+    })
 }
 
 pub fn admit<L: Layout>(heap: Global, layout: &L) -> Result<Admitted, Refusal>

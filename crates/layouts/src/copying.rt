@@ -33,7 +33,11 @@ pub(crate) fn copy_arcs<L: Layout>(heap: Global, layout: &L) -> Result<Arcs, Ref
         enters.push(layout.enters(cell).unwrap())?;
         leaf.push(matches!(layout.kind(cell).unwrap(), Kind::Leaf))?;
     }
-    Ok(Arcs { leaves, enters, leaf })
+    Ok(Arcs {
+        leaves,
+        enters,
+        leaf,
+    })
 }
 
 // Appends the marks of one cell: of a leaf, under which cells it counts.

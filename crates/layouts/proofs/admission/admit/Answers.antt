@@ -1,7 +1,6 @@
 -- The memory fits the network, and want of it is the only refusal within the limits.
-use mathlib.Core.Path.{_≡_, refl, sym, ap, subst, _∙_}
-use mathlib.Core.Bool.{true, _&&_}
-use Prim.Native.Nat.{ℕ, _≤_}
+use mathlib.Core.Path.{_≡_, sym, subst, _∙_}
+use mathlib.Core.Bool.{true, false}
 use native.Mathlib.Omega.{arith}
 use lib.Dec.{leb}
 use Rattle.std.specs.Of.Vec.{vec-items, vec-len}
@@ -31,13 +30,14 @@ ghost-result g c =
     let relations : c .relations-relations .result ≡ n .relations = c .relations-relations .ensures ∙ sym (same .relations) in
     let f : Fresh (vec-len (n .leaves)) (n .relations) m = subst (λ k. Fresh k (n .relations) m) cells (subst (λ k. Fresh (c .cells-cells .result) k m) relations (c .in-Continue-memory .ensures tt)) in
     let k = vec-len (n .leaves) in
-    (vec-len-nil (m .records) (f .records),
-     (f .room,
-      (f .seen,
-       ((f .heads, f .ends),
-        (rows-blank k (vec-items (m .rows)) (f .rows),
-         ((f .marks, f .table),
-          ((f .layer, f .via),
-           ((vec-len-replicate k 0 (m .heads) (f .heads), vec-len-replicate k 0 (m .ends) (f .ends), vec-len-replicate k blank (m .rows) (f .rows), vec-len-replicate k 0 (m .marks) (f .marks), vec-len-replicate k 0 (m .table) (f .table)),
-            ((vec-len-replicate (n .relations) 0 (m .layer) (f .layer), vec-len-replicate (n .relations) 0 (m .via) (f .via), vec-len-replicate 2048 _ (m .seen) (f .seen)),
-             tt)))))))))
+    let none = vec-len-nil (m .records) (f .records) in
+    let blanks = rows-blank k (vec-items (m .rows)) (f .rows) in
+    let heads = vec-len-replicate k 0 (m .heads) (f .heads) in
+    let ends = vec-len-replicate k 0 (m .ends) (f .ends) in
+    let rows = vec-len-replicate k blank (m .rows) (f .rows) in
+    let marks = vec-len-replicate k 0 (m .marks) (f .marks) in
+    let table = vec-len-replicate k 0 (m .table) (f .table) in
+    let layer = vec-len-replicate (n .relations) 0 (m .layer) (f .layer) in
+    let via = vec-len-replicate (n .relations) 0 (m .via) (f .via) in
+    let seen = vec-len-replicate 2048 false (m .seen) (f .seen) in
+    (none, (f .room, (f .seen, ((f .heads, f .ends), (blanks, ((f .marks, f .table), ((f .layer, f .via), ((heads, ends, rows, marks, table), ((layer, via, seen), tt)))))))))

@@ -1,9 +1,9 @@
 -- The copy gives the layout's answers, so the layout's laws are its laws.
 use mathlib.Core.Path.{_≡_, sym, ap, _∙_}
-use mathlib.Core.Bool.{_&&_}
-use Prim.Native.Nat.{ℕ, _*_, _<_}
+use Prim.Native.Nat.{ℕ, _*_, _≤_, _<_}
 use native.Mathlib.Omega.{arith}
 use lib.Dec.{leb}
+use lib.ListN.{length}
 use Rattle.std.specs.Of.Vec.{vec-items, vec-len}
 use Rattle.std.proofs.shelf.Tests.{and-parts, leb-true}
 use Rattle.layouts.specs.Copied.{copied, marksOfAll}
@@ -26,12 +26,13 @@ ghost-result g c =
     let es = vec-len-values (s .cells) (s .enters) (a .enters) (arcs .enters) in
     let fs = vec-len-values (s .cells) (s .leaf) (a .leaf) (arcs .leaf) in
     let us = vec-len-values (s .cells * s .cells) (marksOfAll s) u rows in
-    ((es ∙ sym ls, fs ∙ sym ls, us ∙ ap (λ n. n * n) (sym ls)),
-     ((omega (arith, ls, leb-true (s .cells) 512 (limits .0)), omega (arith, c .relations-relations .ensures, leb-true (s .relations) 128 (limits .1))),
-      ((λ k h. laws .left k (omega (arith, a .leaves .ok .0))),
-       ((λ k h. laws .entered k (omega (arith, a .leaves .ok .0))),
-        ((λ k h. laws .apart k (omega (arith, a .leaves .ok .0))),
-         (laws .itself, (laws .alone, (laws .balanced, tt))))))))
+    let cells : vec-len (a .leaves) ≤ 512 = omega (arith, ls, leb-true (s .cells) 512 (limits .0)) in
+    let relations : c .relations-relations .result ≤ 128 = omega (arith, c .relations-relations .ensures, leb-true (s .relations) 128 (limits .1)) in
+    let below : (k : ℕ) → k < vec-len (a .leaves) → k < length (vec-items (a .leaves)) = λ k h. omega (arith, a .leaves .ok .0) in
+    let left = λ (k : ℕ) (h : k < vec-len (a .leaves)). laws .left k (below k h) in
+    let entered = λ (k : ℕ) (h : k < vec-len (a .leaves)). laws .entered k (below k h) in
+    let apart = λ (k : ℕ) (h : k < vec-len (a .leaves)). laws .apart k (below k h) in
+    ((es ∙ sym ls, fs ∙ sym ls, us ∙ ap (λ n. n * n) (sym ls)), ((cells, relations), (left, (entered, (apart, (laws .itself, (laws .alone, (laws .balanced, tt))))))))
 
 pub returns : need.returns
 returns g c =

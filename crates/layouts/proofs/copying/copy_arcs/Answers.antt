@@ -28,15 +28,16 @@ pub loop-cell-again : need.loop-cell-again
 loop-cell-again g c =
     let s = g .L·Layout .shape (c .args .layout .now) in
     let i = c .loop-cell .cell in
-    let lt : i < s .cells = omega arith in
-    (values-push [] _ _ i (s .leaves) _ (c .loop-cell .inv .0) (c .in-Continue-push .ensures tt .items) (the-answer i (s .cells) _ _ _ lt (c .leaves .ensures) (c .unwrap .ensures)),
-     values-push [] _ _ i (s .enters) _ (c .loop-cell .inv .1) (c .in-Continue-push-2 .ensures tt .items) (the-answer i (s .cells) _ _ _ lt (c .enters .ensures) (c .unwrap-in-loop-cell .ensures)),
-     values-push [] _ _ i (s .leaf) _ (c .loop-cell .inv .2) (c .in-Continue-push-3 .ensures tt .items)
-       (let k = the-answer i (s .cells) _ _ _ lt (c .kind .ensures) (c .unwrap-in-loop-cell-2 .ensures) in
-        elim (c .match-matches .came) [
-            in-Leaf w ↦ leaf-told _ _ _ k (w .matches-is) (w .in-Leaf .is)
-          | in-rest w ↦ total-told _ _ _ k (w .matches-is) (w .in-rest .is)
-        ]))
+    let lt : i < s .cells = omega arith in (
+      values-push [] _ _ i (s .leaves) _ (c .loop-cell .inv .0) (c .in-Continue-push .ensures tt .items) (the-answer i (s .cells) _ _ _ lt (c .leaves .ensures) (c .unwrap .ensures)),
+      values-push [] _ _ i (s .enters) _ (c .loop-cell .inv .1) (c .in-Continue-push-2 .ensures tt .items) (the-answer i (s .cells) _ _ _ lt (c .enters .ensures) (c .unwrap-in-loop-cell .ensures)),
+      values-push [] _ _ i (s .leaf) _ (c .loop-cell .inv .2) (c .in-Continue-push-3 .ensures tt .items)
+          (let k = the-answer i (s .cells) _ _ _ lt (c .kind .ensures) (c .unwrap-in-loop-cell-2 .ensures) in
+          elim (c .match-matches .came) [
+            | in-Leaf w ↦ leaf-told _ _ _ k (w .matches-is) (w .in-Leaf .is)
+            | in-rest w ↦ total-told _ _ _ k (w .matches-is) (w .in-rest .is)
+          ]),
+    )
 
 pub returns : need.returns
 returns g c =

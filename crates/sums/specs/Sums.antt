@@ -1,7 +1,8 @@
--- Sums and counts over the numbers below n.
+-- Sums and counts over the numbers below n, and over a list of places.
+use mathlib.Core.Path.{_≡_}
 use mathlib.Core.Bool.{Bool, true, false, cond, _||_}
 use mathlib.Core.List.{List, [], _∷_}
-use Prim.Native.Nat.{ℕ, zero, suc, _+_}
+use Prim.Native.Nat.{ℕ, zero, suc, _+_, _<_}
 use lib.Dec.{eqb}
 
 -- f 0 + f 1 + .. + f (n - 1)
@@ -17,3 +18,18 @@ count-below n test = sum-below n (λ k. cond (test k) 1 0)
 abbrev pub among : ℕ → List ℕ → Bool
 among c [] = false
 among c (a ∷ bs) = eqb c a || among c bs
+
+-- how many of the places pass the test
+abbrev pub passing : (ℕ → Bool) → List ℕ → ℕ
+passing test [] = 0
+passing test (a ∷ bs) = cond (test a) 1 0 + passing test bs
+
+-- no place stands twice
+abbrev pub Apart : List ℕ → Type 0
+Apart [] = Unit {0}
+Apart (a ∷ bs) = (among a bs ≡ false) × Apart bs
+
+-- every place is below n
+abbrev pub Within : ℕ → List ℕ → Type 0
+Within n [] = Unit {0}
+Within n (a ∷ bs) = (a < n) × Within n bs

@@ -1,0 +1,2 @@
+pub mod SumBelow
+pub mod CountAmong

@@ -1,2 +1,3 @@
 pub mod Contributions
 pub mod Chains
+pub mod Entering

@@ -1,1 +1,3 @@
 // From contributions to the figures and needs of a table.
+pub mod entering;
+pub mod held;

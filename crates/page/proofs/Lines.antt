@@ -1,10 +1,10 @@
 -- What the writes into one line leave, and how long a line is.
-use mathlib.Core.Path.{_≡_, refl, sym, ap, _∙_}
+use mathlib.Core.Path.{_≡_, ap, _∙_}
 use mathlib.Core.List.{List, [], _∷_, _++_}
 use mathlib.Core.Bool.{true}
 use Prim.Native.Nat.{ℕ, _+_, _-_, _*_, _^_, _<_, _≤_}
 use native.Mathlib.Omega.{arith}
-use lib.ListN.{length, take, drop, set, getD, replicate, length-append, length-take, length-replicate}
+use lib.ListN.{length, take, set, getD, replicate, length-append, length-take, length-replicate}
 use borrow.Rule.Slice.PartMut.{postOf, putMid}
 use Rattle.std.specs.Written.{decimal}
 use Rattle.std.specs.declared.option.Option.{Option}

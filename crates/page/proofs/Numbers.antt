@@ -1,12 +1,12 @@
 -- One digit more of a number's text, from its end.
-use mathlib.Core.Path.{_≡_, refl, sym, ap, _∙_}
-use mathlib.Core.List.{List, [], _∷_, _++_, append-assoc}
+use mathlib.Core.Path.{_≡_, sym, ap, _∙_}
+use mathlib.Core.List.{List, _++_, append-assoc}
 use Prim.Native.Nat.{ℕ, _+_, _-_, _/_, _%_, _^_, _<_, _≤_}
 use native.Mathlib.Omega.{arith}
 use lib.ListN.{length, take, drop, set, replicate, length-append, length-drop, length-take}
 use Rattle.std.specs.Written.{decimal}
 use Rattle.std.proofs.shelf.Decimals.{decimal-digit, decimal-step, decimal-some}
-use Rattle.std.proofs.shelf.Lists.{drop-set, drop-all, append-nil}
+use Rattle.std.proofs.shelf.Lists.{drop-set}
 use borrow.Rule.Slice.PartMut.{postOf}
 use Rattle.page.specs.Page.{aligned}
 

@@ -1,7 +1,7 @@
 // Pages: a line of 19 bytes for each cell, with its figure or the letter D.
 ghost use mathlib.Core.Path.{_≡_};
 ghost use mathlib.Core.Bool.{true};
-ghost use Prim.Native.Nat.{_+_, _*_, _^_, _<_, _≤_};
+ghost use Prim.Native.Nat.{_+_, _*_, _<_};
 ghost use lib.ListN.{length};
 ghost use Rattle.page.specs.Laws.{PageLaws};
 ghost use Rattle.page.specs.Page.{fits};

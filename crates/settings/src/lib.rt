@@ -1,5 +1,4 @@
 // The settings line that an input begins with: which layout and which rule a table is to have.
-ghost use mathlib.Core.Path.{_≡_};
 ghost use Rattle.settings.specs.Line.{layoutText, ruleText, settingsText, ShortLayout, ShortRule, ShortSettings, ShortLine};
 ghost use Rattle.settings.specs.Reading.{Exactly, ReadsSettings};
 use refusals::Refusal;

@@ -1,5 +1,5 @@
 -- A figure that does not fit decides, and one that fits leaves it to the rest.
-use mathlib.Core.Path.{_≡_, sym, ap, _∙_}
+use mathlib.Core.Path.{sym, ap, _∙_}
 use mathlib.Core.Bool.{_&&_}
 use Prim.Native.Nat.{_+_}
 use lib.ListN.{drop}

@@ -1,10 +1,9 @@
 -- Line by line, or nothing at all.
-use mathlib.Core.Path.{_≡_, sym, ap, _∙_}
-use mathlib.Core.Bool.{true, false}
+use mathlib.Core.Path.{_≡_, sym, _∙_}
 use native.Mathlib.Omega.{arith}
 use lib.ListN.{length}
 use Rattle.std.proofs.shelf.Tests.{cond-true, cond-false}
-use Rattle.page.specs.Writing.{shownAt, pageRoom}
+use Rattle.page.specs.Writing.{shownAt}
 use Rattle.page.proofs.Pages.{room-printable, page-none, room-more, over-more}
 use Rattle.page.proofs.Reading.{page-laws}
 use Rattle.page.proofs.write_page.Needs as need

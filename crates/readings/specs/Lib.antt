@@ -1,0 +1,4 @@
+pub mod Balance
+pub mod Readings
+pub mod Exposure
+pub mod Theorems

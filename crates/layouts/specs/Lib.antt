@@ -1,2 +1,5 @@
 pub mod Shape
+pub mod Answers
+pub mod Layouts
+pub mod Places
 pub mod Copied

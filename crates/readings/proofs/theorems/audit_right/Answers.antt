@@ -1,0 +1,5 @@
+use Rattle.readings.proofs.Audits.{audit-right}
+use Rattle.readings.proofs.theorems.audit_right.Needs as need
+
+pub returns : need.returns
+returns c = audit-right

@@ -1,0 +1,6 @@
+pub mod Balance
+pub mod Readings
+pub mod Exposure
+pub mod Theorems
+pub mod Worked
+pub mod Paths

@@ -1,0 +1,2 @@
+// Readings of a table of which some cells are withheld, which cells they expose, and the engine that finds out.
+pub mod theorems;

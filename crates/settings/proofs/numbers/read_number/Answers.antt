@@ -1,0 +1,13 @@
+-- A number is read exactly where its digits end.
+use Prim.Native.Nat.{_+_}
+use Rattle.std.proofs.shelf.Lists.{take-rest}
+use Rattle.settings.proofs.Texts.{number-none, number-some}
+use Rattle.settings.proofs.numbers.read_number.Needs as need
+
+pub returns-in-Break-number : need.returns-in-Break-number
+returns-in-Break-number c = rw (c .from-residual .ensures) (number-none (c .args .bytes .now) (c .args .end) (c .in-Break-number .ensures tt))
+
+pub returns : need.returns
+returns c =
+    number-some (c .args .bytes .now) (c .args .end) (c .pre) _ (c .in-Continue-number .at) _
+    (c .in-Continue-number .ensures tt .0) (c .in-Continue-number .ensures tt .1) (take-rest (c .args .bytes .now) (c .in-Continue-number .at + 1))

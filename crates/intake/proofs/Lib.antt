@@ -1,3 +1,4 @@
 pub mod Links
 pub mod Shuffles
 pub mod Entered
+pub mod Walking

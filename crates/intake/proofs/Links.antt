@@ -47,3 +47,19 @@ pub latest-push : (l : ℕ) (leaves : List ℕ) (x n : ℕ) → n ≤ length lea
 latest-push l leaves x zero h = refl
 latest-push l leaves x (suc n) h =
     rw (getD-append-left leaves (x ∷ []) 0 n (omega arith), latest-push l leaves x n (omega arith))
+
+-- the latest is its own latest
+pub latest-again : (l : ℕ) (leaves : List ℕ) (n : ℕ) → latest l leaves (latest l leaves n) ≡ latest l leaves n
+latest-again l leaves zero = refl
+latest-again l leaves (suc n) =
+    ⊎-elim (λ (e : getD leaves n 0 ≡ l). rw (eq-eqb (getD leaves n 0) l e, eq-eqb (getD leaves n 0) l e))
+    (λ (d : getD leaves n 0 ≡ l → ⊥). rw (ne-eqb (getD leaves n 0) l d) (latest-again l leaves n))
+    (cases-eq (getD leaves n 0) l)
+
+-- and the chain from it on is the whole chain
+pub chain-latest : (l : ℕ) (leaves amounts : List ℕ) (n : ℕ) → chain-amounts l leaves amounts n ≡ chain-amounts l leaves amounts (latest l leaves n)
+chain-latest l leaves amounts zero = refl
+chain-latest l leaves amounts (suc n) =
+    ⊎-elim (λ (e : getD leaves n 0 ≡ l). rw (eq-eqb (getD leaves n 0) l e, eq-eqb (getD leaves n 0) l e))
+    (λ (d : getD leaves n 0 ≡ l → ⊥). rw (ne-eqb (getD leaves n 0) l d) (chain-latest l leaves amounts n))
+    (cases-eq (getD leaves n 0) l)

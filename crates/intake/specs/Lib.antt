@@ -1,3 +1,5 @@
 pub mod Contributions
 pub mod Chains
 pub mod Entering
+pub mod Rows
+pub mod Settling

@@ -1,0 +1,36 @@
+// Settling: the figure and the need of each cell, from the chains of the leaves that count under it.
+ghost use mathlib.Core.Path.{_≡_};
+ghost use mathlib.Core.List.{List, _++_};
+ghost use Prim.Native.Nat.{ℕ, _+_, _*_, _<_, _≤_};
+ghost use lib.ListN.{length};
+ghost use Rattle.std.specs.Of.Vec.{vec-len};
+ghost use Rattle.std.specs.shelf.Lists.{sum};
+ghost use Rattle.layouts.specs.Admission.{shapeOf};
+ghost use Rattle.intake.specs.Chains.{held};
+ghost use Rattle.intake.specs.Settling.{Chained, chain-of, settled-row};
+use layouts::memory::Mark;
+use layouts::memory::Record;
+use layouts::memory::Row;
+use layouts::network::Network;
+use rules::Rule;
+
+// Tells the rule the amounts of a leaf, the latest first, and answers their sum.
+fn tell_chain<R: Rule>(rule: &mut R, records: &[Record], heads: &[usize], leaf: usize) -> u64
+    requires chained { ⌜ Chained (now records) (now heads) ⌝ }
+    requires inside { ⌜ leaf < length (now heads) ⌝ }
+    ensures sum { λ r. ⌜ r ≡ sum (chain-of (now (records .entry)) leaf) ⌝ }
+    ensures bound { λ r. ⌜ r ≤ 2048000000000 ⌝ }
+    ensures told { λ _. ⌜ ((xs : List ℕ) → stands (now (rule .entry)) xs → length xs + length (chain-of (now (records .entry)) leaf) ≤ 2048 → stands (now (rule .exit)) (xs ++ chain-of (now (records .entry)) leaf)) ⌝ }
+    ensures same { λ _. ⌜ ((xs : List ℕ) → meaning (now (rule .exit)) xs ≡ meaning (now (rule .entry)) xs) ⌝ }
+{
+    let mut sum = 0;
+    let mut link = heads[leaf];
+    while link != 0 {
+        let record = records[link - 1];
+        let amount = record.contribution.amount;
+        let _ = rule.tell(amount);
+        sum += amount;
+        link = record.next;
+    }
+    sum
+}

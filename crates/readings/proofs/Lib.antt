@@ -6,3 +6,5 @@ pub mod Walls
 pub mod Firsts
 pub mod Audits
 pub mod Ends
+pub mod Reaching
+pub mod Walking

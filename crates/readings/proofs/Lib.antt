@@ -8,3 +8,4 @@ pub mod Audits
 pub mod Ends
 pub mod Reaching
 pub mod Walking
+pub mod Trials

@@ -123,3 +123,17 @@ pub record Changed (sh : Shape) (side : Side) (pass : ℕ → Bool) (t d : ℕ) 
   pub moves : done ≡ true → Moves side d (y t) (z t)
   pub stays : done ≡ false → (c : ℕ) → z c ≡ y c
   pub stuck : done ≡ false → Stuck sh side pass y d t
+
+-- of the need k, `left` is still to go: the figure is v, and the value is n by now
+abbrev pub Partly : Side → ℕ → ℕ → ℕ → ℕ → Type 0
+Partly Up k left v n = n + left ≡ v + k
+Partly Down k left v n = n + k ≡ v + left
+
+-- A trial of the cell t: the table y has come as far as that, and the next path is to have the amount d.
+pub record Trying (sh : Shape) (side : Side) (pass : ℕ → Bool) (v : ℕ → ℕ) (k t left d : ℕ) (y : ℕ → ℕ) : Type 0 where
+  pub balanced : Balanced sh y
+  pub only : (c : ℕ) → c < sh .cells → pass c ≡ false → (c ≡ t → ⊥) → y c ≡ v c
+  pub moved : Partly side k left (v t) (y t)
+  pub near : (c : ℕ) → c < sh .cells → y c + left ≤ v c + k
+  pub at-most : d ≤ left
+  pub some : 0 < left → 0 < d

@@ -68,10 +68,13 @@ module _ (R C : ℕ) where
       let p = at-place (row R C l) C (omega arith) in
       let q = at-place R (column R C l) (omega arith) in
       let c : C ≤ C = omega arith in
-      let d : column R C l ≤ C = omega arith in
-      (rw (off-column l (row R C l) C c (λ z. omega arith), off-row l R (column R C l) d (λ z. omega arith), off-row l R C c (λ z. omega arith)),
-      (rw (off-row (place R C (row R C l) C) R (column R C l) d (λ z. omega arith), off-row (place R C (row R C l) C) R C c (λ z. omega arith)),
-      (rw (off-column (place R C R (column R C l)) R C c (λ z. omega arith)), (refl, tt))))
+      let d : column R C l ≤ C = omega arith in (
+        rw (off-column l (row R C l) C c (λ z. omega arith), off-row l R (column R C l) d (λ z. omega arith), off-row l R C c (λ z. omega arith)),
+        (
+          rw (off-row (place R C (row R C l) C) R (column R C l) d (λ z. omega arith), off-row (place R C (row R C l) C) R C c (λ z. omega arith)),
+          (rw (off-column (place R C R (column R C l)) R C c (λ z. omega arith)), (refl, tt)),
+        ),
+      )
 
   grid-alone : (k l : ℕ) → twoLeaves (grid R C) k l ≡ true → grid R C .counts k l ≡ false
   grid-alone k l e =

@@ -18,14 +18,14 @@ gridSize R C = between 1 31 R && between 1 31 C
 
 -- n leaves, then their total; every leaf leaves relation 0 and enters relation 1, the total goes the other way
 abbrev pub listed : ℕ → Shape
-listed n = record
-  { cells = n + 1
-  ; relations = 2
-  ; leaf = λ c. ltb c n
-  ; leaves = λ c. cond (ltb c n) 0 1
-  ; enters = λ c. cond (ltb c n) 1 0
-  ; counts = λ c l. among c (l ∷ n ∷ [])
-  }
+listed n = record {
+  cells = n + 1;
+  relations = 2;
+  leaf = λ c. ltb c n;
+  leaves = λ c. cond (ltb c n) 0 1;
+  enters = λ c. cond (ltb c n) 1 0;
+  counts = λ c l. among c (l ∷ n ∷ []);
+}
 
 -- R rows and C columns, with the totals of the rows in column C and those of the columns in row R
 module _ (R C : ℕ) where
@@ -44,11 +44,11 @@ module _ (R C : ℕ) where
 
   -- relation r < R is row r, relation R + c is column c, relation R + C has the row totals, R + C + 1 the column totals
   abbrev pub grid : Shape
-  grid = record
-    { cells = (R + 1) * (C + 1)
-    ; relations = R + C + 2
-    ; leaf = λ k. by k true false false false
-    ; leaves = λ k. by k (row k) (R + C) (R + column k) (R + C + 1)
-    ; enters = λ k. by k (R + column k) (row k) (R + C + 1) (R + C)
-    ; counts = λ k l. among k (l ∷ place (row l) C ∷ place R (column l) ∷ place R C ∷ [])
-    }
+  grid = record {
+    cells = (R + 1) * (C + 1);
+    relations = R + C + 2;
+    leaf = λ k. by k true false false false;
+    leaves = λ k. by k (row k) (R + C) (R + column k) (R + C + 1);
+    enters = λ k. by k (R + column k) (row k) (R + C + 1) (R + C);
+    counts = λ k l. among k (l ∷ place (row l) C ∷ place R (column l) ∷ place R C ∷ []);
+  }

@@ -3,3 +3,5 @@ pub mod Answers
 pub mod Layouts
 pub mod Places
 pub mod Copied
+pub mod Blank
+pub mod Admission

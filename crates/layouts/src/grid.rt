@@ -46,12 +46,14 @@ impl Grid {
         }
         let row = cell / width;
         let column = cell % width;
-        Some(match (row < self.rows, column < self.columns) {
-            (true, true) => Place::Inside(row, column),
-            (true, false) => Place::RowTotal(row),
-            (false, true) => Place::ColumnTotal(column),
-            (false, false) => Place::GrandTotal,
-        })
+        Some(
+            match (row < self.rows, column < self.columns) {
+                (true, true) => Place::Inside(row, column),
+                (true, false) => Place::RowTotal(row),
+                (false, true) => Place::ColumnTotal(column),
+                (false, false) => Place::GrandTotal,
+            },
+        )
     }
 }
 
@@ -100,7 +102,12 @@ pub impl Layout for Grid as GridLayout {
             return None;
         };
         let foot = self.rows * width;
-        let above = [leaf, row * width + self.columns, foot + column, foot + self.columns];
+        let above = [
+            leaf,
+            row * width + self.columns,
+            foot + column,
+            foot + self.columns,
+        ];
         Some(is_among(cell, &above))
     }
 }

@@ -3,8 +3,12 @@ ghost use mathlib.Core.Path.{_≡_};
 ghost use Rattle.layouts.specs.Answers.{countsOf, entersOf, kindOf, leavesOf};
 ghost use Rattle.layouts.specs.Shape.{Laws, Shape};
 
+pub mod admission;
+pub mod admitted;
+mod copying;
 pub mod grid;
 pub mod listing;
+pub mod memory;
 pub mod network;
 
 #[derive(Clone, Copy)]

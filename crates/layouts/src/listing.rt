@@ -42,7 +42,11 @@ pub impl Layout for Listing as ListingLayout {
         if cell > self.count {
             return None;
         }
-        Some(if cell < self.count { Kind::Leaf } else { Kind::Total })
+        Some(if cell < self.count {
+            Kind::Leaf
+        } else {
+            Kind::Total
+        })
     }
 
     fn leaves(&self, cell: usize) -> Option<usize> {

@@ -32,8 +32,10 @@ count-among n test [] h w = sum-zero n
 count-among n test (a ∷ bs) h w =
     let here : ℕ → ℕ = λ c. cond (eqb c a) (cond (test a) 1 0) 0 in
     let rest : ℕ → ℕ = λ c. cond (among c bs && test c) 1 0 in
-    omega (arith,
+    omega (
+      arith,
       sum-same n (λ c. cond (among c (a ∷ bs) && test c) 1 0) (λ c. here c + rest c) (λ c _. among-more test a bs (h .0) c),
       sum-add n here rest,
       sum-hit n a (cond (test a) 1 0) (w .0),
-      count-among n test bs (h .1) (w .1))
+      count-among n test bs (h .1) (w .1),
+    )

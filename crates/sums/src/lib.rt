@@ -18,11 +18,9 @@ pub fn is_among(number: usize, places: &[usize]) -> bool
 // Two sums, one inside the other, may be exchanged.
 pub fn sums_exchange()
     ensures { λ _. ⌜ Exchange ⌝ }
-{
-}
+{}
 
 // A count over some places is made at those places.
 pub fn counts_are_made_in_place()
     ensures { λ _. ⌜ Count-among ⌝ }
-{
-}
+{}

@@ -43,15 +43,15 @@ module _ (sh : Shape) (side : Side) (pass : ℕ → Bool) (v : ℕ → ℕ) (k t
   partly-start Up n = refl
   partly-start Down n = refl
 
-  pub trying-start : (y : ℕ → ℕ) → y ≡ v → Balanced sh v → Trying sh side pass v k t k k y
-  trying-start y e b = subst (Trying sh side pass v k t k k) (sym e) (record {
+  pub trying-start : (left : ℕ) (y : ℕ → ℕ) → left ≡ k → y ≡ v → Balanced sh v → Trying sh side pass v k t left left y
+  trying-start left y n e b = subst (λ (i : ℕ). Trying sh side pass v k t i i y) (sym n) (subst (Trying sh side pass v k t k k) (sym e) (record {
     balanced = b;
     only = λ c _ _ _. refl;
     moved = partly-start side (v t);
     near = λ c _. omega arith;
     at-most = omega arith;
     some = λ h. h;
-  })
+  }))
 
   room : (s : Side) (left d m n : ℕ) → d ≤ left → k ≤ m → Partly s k left m n → Room (λ _. n) d t s
   room Up left d m n h i p = tt

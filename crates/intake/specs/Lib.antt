@@ -1,5 +1,5 @@
 pub mod Contributions
 pub mod Chains
 pub mod Entering
-pub mod Rows
+pub mod Marks
 pub mod Settling

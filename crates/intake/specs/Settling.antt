@@ -3,10 +3,7 @@ use mathlib.Core.Path.{_≡_}
 use mathlib.Core.Bool.{Bool, _&&_}
 use mathlib.Core.List.{List}
 use Prim.Native.Nat.{ℕ, _≤_, _<_}
-use lib.Dec.{eqb}
 use lib.ListN.{length, getD}
-use Rattle.layouts.specs.declared.memory.Mark.{Mark}
-use Rattle.layouts.specs.declared.memory.Mark.the-variants.{Open, Sensitive, Complement, Printed, Barred}
 use Rattle.layouts.specs.Shape.{Shape, isLeaf}
 use Rattle.layouts.specs.Copied.{values}
 use Rattle.layouts.specs.declared.memory.Contribution.{Contribution}
@@ -14,7 +11,7 @@ use Rattle.layouts.specs.declared.memory.Record.{Record}
 use Rattle.layouts.specs.declared.memory.Row.{Row}
 use Rattle.intake.specs.Contributions.{figure-of, need-of}
 use Rattle.intake.specs.Chains.{held, leaf-list, amount-list, next-list, latest, chain-amounts}
-use Rattle.intake.specs.Rows.{first-mark}
+use Rattle.intake.specs.Marks.{first-mark}
 
 -- the row of the cell c
 abbrev pub settled-row : Shape → (List ℕ → ℕ) → List Contribution → ℕ → Row
@@ -26,17 +23,6 @@ settled-row s meaning xs c = record
 
 abbrev pub settled-rows : Shape → (List ℕ → ℕ) → List Contribution → List Row
 settled-rows s meaning xs = values (s .cells) (settled-row s meaning xs)
-
--- each mark by a number, so that two can be compared
-abbrev pub mark-number : Mark → ℕ
-mark-number Open = 0
-mark-number Sensitive = 1
-mark-number Complement = 2
-mark-number Printed = 3
-mark-number Barred = 4
-
-abbrev pub sameMark : Mark → Mark → Bool
-sameMark m n = eqb (mark-number m) (mark-number n)
 
 -- the leaf l counts under the cell c
 abbrev pub is-under : Shape → ℕ → ℕ → Bool

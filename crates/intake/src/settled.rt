@@ -7,8 +7,9 @@ ghost use Rattle.std.specs.Of.Vec.{vec-items, vec-len};
 ghost use Rattle.layouts.specs.Admission.{shapeOf};
 ghost use Rattle.readings.specs.Balance.{entering-sum, leaving-sum};
 ghost use Rattle.readings.specs.Exposure.{any-below};
-ghost use Rattle.intake.specs.Rows.{figures, first-mark, marks as row-marks, needs};
-ghost use Rattle.intake.specs.Settling.{is-under, sameMark};
+ghost use Rattle.readings.specs.Rows.{figures, needs};
+ghost use Rattle.intake.specs.Marks.{first-mark, mark-at, sameMark};
+ghost use Rattle.intake.specs.Settling.{is-under};
 use layouts::memory::Row;
 use layouts::network::Network;
 
@@ -27,6 +28,6 @@ pub struct Settled {
     ghost balanced: { ((r : ℕ) → r < network .relations → entering-sum (shapeOf network) (figures (vec-items rows)) r ≡ leaving-sum (shapeOf network) (figures (vec-items rows)) r) },
     ghost within: { ((c : ℕ) → c < vec-len (network .leaves) → needs (vec-items rows) c ≤ figures (vec-items rows) c) },
     ghost small: { ((c : ℕ) → c < vec-len (network .leaves) → figures (vec-items rows) c ≤ 2048000000000) },
-    ghost begun: { ((c : ℕ) → c < vec-len (network .leaves) → sameMark (row-marks (vec-items rows) c) (first-mark (needs (vec-items rows) c)) ≡ true) },
+    ghost begun: { ((c : ℕ) → c < vec-len (network .leaves) → sameMark (mark-at (vec-items rows) c) (first-mark (needs (vec-items rows) c)) ≡ true) },
     ghost grounded: { ((c : ℕ) → c < vec-len (network .leaves) → ltb 0 (needs (vec-items rows) c) ≡ true → any-below (vec-len (network .leaves)) (is-under (shapeOf network) c) ≡ true) },
 }

@@ -36,20 +36,17 @@ fn filled<T: Copy>(heap: Global, n: usize, x: T) -> Result<Vec<T>, AllocError>
 fn get_memory(heap: Global, cells: usize, relations: usize) -> Result<Memory, Refusal>
     ensures { λ r. ⌜ Cases r (λ m. Fresh cells relations m) (λ e. e ≡ OutOfMemory) ⌝ }
 {
+    let blank = Row {
+        figure: 0,
+        need: 0,
+        mark: Mark::Open,
+    };
     Ok(Memory {
         records: Vec::with_capacity(heap, RECORDS)?,
         heads: filled(heap, cells, 0)?,
         pending: Vec::with_capacity(heap, RECORDS)?,
         seen: filled(heap, RECORDS, false)?,
-        rows: filled(
-            heap,
-            cells,
-            Row {
-                figure: 0,
-                need: 0,
-                mark: Mark::Open,
-            },
-        )?,
+        rows: filled(heap, cells, blank)?,
         marks: filled(heap, cells, 0)?,
         table: filled(heap, cells, 0)?,
         layer: filled(heap, relations, 0)?,

@@ -6,3 +6,6 @@ pub mod Walls
 pub mod Firsts
 pub mod Audits
 pub mod Ends
+pub mod Reaching
+pub mod Walking
+pub mod Trials

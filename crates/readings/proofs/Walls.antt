@@ -182,8 +182,8 @@ walls-stay sh less more v k t side h =
 module _ (sh : Shape) (withheld : ℕ → Bool) (v : ℕ → ℕ) (t : ℕ) (ok : Sound sh) (bv : Balanced sh v) (l : t < sh .cells) where
   -- no reading is k away past a wall
   wall-exposed : (k : ℕ) (side : Side) (S : ℕ → Bool) → Wall sh withheld v k t side S → Exposed sh withheld v k t side
-  wall-exposed k Up S w far = omega (arith, w .few, far .2, simp (w .has, w .lacks) at (wall-holds sh withheld v t Up S ok bv l (far .0) (far .1) (w .shut)))
-  wall-exposed k Down S w far = omega (arith, w .few, far .2, simp (w .has, w .lacks) at (wall-holds sh withheld v t Down S ok bv l (far .0) (far .1) (w .shut)))
+  wall-exposed k Up S w far = omega (arith, w .few, far .1 .away, simp (w .has, w .lacks) at (wall-holds sh withheld v t Up S ok bv l (far .0) (far .1 .reading) (w .shut)))
+  wall-exposed k Down S w far = omega (arith, w .few, far .1 .away, simp (w .has, w .lacks) at (wall-holds sh withheld v t Down S ok bv l (far .0) (far .1 .reading) (w .shut)))
 
   pub exposed-near : (k : ℕ) (side : Side) → exposed? sh withheld v k t side ≡ true → Exposed sh withheld v k t side
   unfolding exposed?
@@ -269,33 +269,35 @@ module _ (sh : Shape) (withheld : ℕ → Bool) (v : ℕ → ℕ) (t : ℕ) (ok 
     further k Down g = record { y = g .y; reads = g .reads; S = g .S; closed = g .closed; has = g .has; lacks = g .lacks; near = omega (arith, g .near) }
 
     more : (k : ℕ) → Far sh withheld v k t Up → Far sh withheld v (suc k) t Up ⊎ Walled (suc k) Up
-    more k (y, ry, h) =
+    more k (y, w) =
+        let ry = w .reading in
         elim (cases-lt (v t + k) (y t)) [
-          | inl past ↦ inl (y, ry, omega arith)
+          | inl past ↦ inl (y, record { reading = ry; away = omega arith })
           | inr at ↦ elim (step Up y (y t + 1) ry
               (raise-last sh 1 (sh .leaves t) (sh .leaves t) y (put y t (y t + 1)) t l (carries-none sh 1 (sh .leaves t) y (ry .balanced)) refl (λ e _ i. put-other y t (y t + 1) e i) (put-same y t (y t + 1)))) [
-            | inl z ↦ inl (z .0, z .1, omega (arith, z .2))
-            | inr d ↦ inr (record { y = y; reads = ry; S = d .0; closed = d .1; has = d .2; lacks = d .3; near = omega arith })
+            | inl z ↦ inl (z .0, record { reading = z .1; away = omega (arith, z .2, w .away) })
+            | inr d ↦ inr (record { y = y; reads = ry; S = d .0; closed = d .1; has = d .2; lacks = d .3; near = omega (arith, w .away) })
           ]
         ]
 
     less : (k : ℕ) → k < v t → Far sh withheld v k t Down → Far sh withheld v (suc k) t Down ⊎ Walled (suc k) Down
-    less k room (y, ry, h) =
+    less k room (y, w) =
+        let ry = w .reading in
         let u : ℕ = y t - 1 in
         elim (cases-lt (y t + k) (v t)) [
-          | inl past ↦ inl (y, ry, omega arith)
+          | inl past ↦ inl (y, record { reading = ry; away = omega arith })
           | inr at ↦ elim (step Down y u ry
               (lower-last (turned sh Down) 1 (sh .leaves t) (sh .leaves t) y (put y t u) t l (carries-none (turned sh Down) 1 (sh .leaves t) y (turned-balanced sh Down y (ry .balanced))) refl
               (λ e _ i. sym (put-other y t u e i)) (omega (arith, put-same y t u)))) [
-            | inl z ↦ inl (z .0, z .1, omega (arith, z .2))
-            | inr d ↦ inr (record { y = y; reads = ry; S = d .0; closed = d .1; has = d .2; lacks = d .3; near = omega arith })
+            | inl z ↦ inl (z .0, record { reading = z .1; away = omega (arith, z .2, w .away) })
+            | inr d ↦ inr (record { y = y; reads = ry; S = d .0; closed = d .1; has = d .2; lacks = d .3; near = omega (arith, w .away) })
           ]
         ]
 
     -- step by step, until a reading is far enough or a closed set stops it
     far-or-walled : (k : ℕ) (side : Side) → Room v k t side → Far sh withheld v k t side ⊎ Walled k side
-    far-or-walled zero Up room = inl (v, record { balanced = bv; true-figures = λ c _ _. refl }, omega arith)
-    far-or-walled zero Down room = inl (v, record { balanced = bv; true-figures = λ c _ _. refl }, omega arith)
+    far-or-walled zero Up room = inl (v, record { reading = record { balanced = bv; true-figures = λ c _ _. refl }; away = omega arith })
+    far-or-walled zero Down room = inl (v, record { reading = record { balanced = bv; true-figures = λ c _ _. refl }; away = omega arith })
     far-or-walled (suc k) Up room =
         ⊎-elim (more k) (λ (g : Walled k Up). inr (further k Up g)) (far-or-walled k Up room)
     far-or-walled (suc k) Down room =

@@ -4,3 +4,4 @@ pub mod Exposure
 pub mod Theorems
 pub mod Worked
 pub mod Paths
+pub mod Rows

@@ -1,2 +1,4 @@
 // Readings of a table of which some cells are withheld, which cells they expose, and the engine that finds out.
+mod paths;
 pub mod theorems;
+mod trial;

@@ -1,0 +1,12 @@
+use Prim.Native.Nat.{ℕ, _<_}
+use lib.ListN.{length}
+use Rattle.readings.specs.Paths.{Walked, arcs, at, turned, withheld-by}
+use Rattle.readings.proofs.paths.change.Given as given
+
+abbrev pub Inv-loop-r : given.InvT-loop-r
+Inv-loop-r l =
+    Walked (turned (arcs (l .relations) (l .leaves) (l .enters)) (l .side)) (withheld-by (l .marks)) (at (l .entry .table)) (l .amount) (at (l .layer)) (l .goal) (l .r) (at (l .table))
+    × (l .r < l .relations) × (at (l .layer) (l .r) < l .relations)
+
+abbrev pub μ-loop-r : given.MeasureT-loop-r
+μ-loop-r l = at (l .layer) (l .r)

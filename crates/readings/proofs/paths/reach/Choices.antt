@@ -1,0 +1,15 @@
+use Prim.Native.Nat.{ℕ, _+_, _-_, _*_, _<_, min}
+use mathlib.Core.Path.{_≡_}
+use lib.ListN.{getD}
+use Rattle.readings.specs.Paths.{Searched, arcs, at, turned, withheld-by}
+use Rattle.readings.proofs.paths.reach.Given as given
+
+abbrev pub Inv-loop-x : given.InvT-loop-x
+Inv-loop-x l = (k : ℕ) → k < l .x-index → getD (l .layer) k 0 ≡ l .relations
+
+abbrev pub Inv-loop-layer : given.InvT-loop-layer
+Inv-loop-layer l =
+    Searched (turned (arcs (l .relations) (l .leaves) (l .enters)) (l .side)) (withheld-by (l .marks)) (at (l .table)) (l .amount) (l .start) (at (l .layer)) (at (l .via)) (l .count)
+
+abbrev pub μ-loop-layer : given.MeasureT-loop-layer
+μ-loop-layer l = (l .relations - l .count) * 2 + min (l .from) 1

@@ -2,3 +2,4 @@ pub mod Links
 pub mod Shuffles
 pub mod Entered
 pub mod Walking
+pub mod Settles

@@ -34,3 +34,24 @@ fn tell_chain<R: Rule>(rule: &mut R, records: &[Record], heads: &[usize], leaf: 
     }
     sum
 }
+
+// The row of a cell: its figure and its need over the amounts entered under it.
+fn settle_cell<R: Rule>(rule: &mut R, network: &Network, records: &[Record], heads: &[usize], cell: usize) -> Row
+    requires chained { ⌜ Chained (now records) (now heads) ⌝ }
+    requires wide { ⌜ length (now heads) ≡ vec-len (now network .leaves) ⌝ }
+    requires inside { ⌜ cell < length (now heads) ⌝ }
+    ensures row { λ r. ⌜ r ≡ settled-row (shapeOf (now (network .entry))) (meaning (now (rule .entry))) (held (now (records .entry))) cell ⌝ }
+    ensures same { λ _. ⌜ ((xs : List ℕ) → meaning (now (rule .exit)) xs ≡ meaning (now (rule .entry)) xs) ⌝ }
+{
+    rule.begin();
+    let cells = heads.len();
+    let mut figure = 0;
+    for leaf in 0..cells {
+        if network.under[leaf * cells + cell] {
+            figure += tell_chain(rule, records, heads, leaf);
+        }
+    }
+    let need = rule.need();
+    let mark = if need > 0 { Mark::Sensitive } else { Mark::Open };
+    Row { figure, need, mark }
+}

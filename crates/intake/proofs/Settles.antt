@@ -1,0 +1,85 @@
+-- The chains of the leaves that count under a cell give its figure and its need.
+use mathlib.Core.Path.{_≡_, refl, sym, ap, subst, _∙_}
+use mathlib.Core.Bool.{Bool, true, false, cond}
+use mathlib.Core.List.{List, [], _∷_, _++_, append-assoc, append-nil}
+use mathlib.Core.Logic.{⊎-elim}
+use Prim.Native.Nat.{ℕ, zero, suc, _+_, _-_, _*_, _<_, _≤_}
+use native.Mathlib.Omega.{arith}
+use native.Mathlib.Numerals.{add-one}
+use lib.Dec.{ltb}
+use lib.ListN.{length, getD, length-append}
+use Rattle.std.specs.shelf.Lists.{sum}
+use Rattle.std.specs.shelf.Sorted.{Shuffled}
+use Rattle.std.proofs.shelf.Lists.{length-map}
+use Rattle.std.proofs.shelf.Sorted.{length-shuffled, sumBy-shuffled}
+use Rattle.std.proofs.shelf.Tests.{cases-bool, lt-ltb, le-ltb}
+use Rattle.layouts.specs.Shape.{Shape}
+use Rattle.layouts.specs.declared.memory.Contribution.{Contribution}
+use Rattle.layouts.specs.declared.memory.Record.{Record}
+use Rattle.layouts.specs.declared.memory.Row.{Row}
+use Rattle.layouts.specs.declared.memory.Mark.{Mark}
+use Rattle.layouts.specs.declared.memory.Mark.the-variants.{Open, Sensitive}
+use Rattle.intake.specs.Contributions.{amounts-under, figure-of, need-of}
+use Rattle.intake.specs.Chains.{held, leaf-list, amount-list, chain-amounts, chains-from}
+use Rattle.intake.specs.Settling.{Chained, settled-row}
+use Rattle.intake.proofs.Shuffles.{under-all}
+
+-- the chain of the leaf m, and then those of the leaves after it
+pub chains-more : (test : ℕ → Bool) (leaves amounts : List ℕ) (n m k : ℕ) → m < k
+    → chains-from test leaves amounts n m (k - m) ≡ cond (test m) (chain-amounts m leaves amounts n) [] ++ chains-from test leaves amounts n (m + 1) (k - (m + 1))
+chains-more test leaves amounts n m k h =
+    let more : k - m ≡ suc (k - (m + 1)) = omega arith in
+    rw (more, add-one)
+
+pub chains-all : (test : ℕ → Bool) (leaves amounts : List ℕ) (n m k : ℕ) → k ≤ m → chains-from test leaves amounts n m (k - m) ≡ []
+chains-all test leaves amounts n m k h = let none : k - m ≡ 0 = omega arith in rw none
+
+pub fewer-under : (s : Shape) (xs : List Contribution) (c : ℕ) → length (amounts-under s xs c) ≤ length xs
+fewer-under s [] c = omega arith
+fewer-under s (x ∷ xs) c =
+    ⊎-elim
+    (λ (e : s .counts c (x .leaf) ≡ true). rw e (omega (arith, fewer-under s xs c)))
+    (λ (e : s .counts c (x .leaf) ≡ false). rw e (omega (arith, fewer-under s xs c)))
+    (cases-bool (s .counts c (x .leaf)))
+
+module _ (s : Shape) (rs : List Record) (heads : List ℕ) (k : Chained rs heads) (c : ℕ) where
+  abbrev pub whole : List ℕ
+  whole = chains-from (s .counts c) (leaf-list (held rs)) (amount-list (held rs)) (length rs) 0 (length heads)
+
+  long : length (held rs) ≡ length rs
+  long = length-map rs (λ r. r .contribution)
+
+  pub whole-shuffled : Shuffled (amounts-under s (held rs) c) whole
+  whole-shuffled =
+      subst (λ n. Shuffled (amounts-under s (held rs) c) (chains-from (s .counts c) (leaf-list (held rs)) (amount-list (held rs)) n 0 (length heads))) long
+      (under-all s (held rs) c (length heads) (λ i h. k .leafy i (omega (arith, long))))
+
+  pub whole-short : length whole ≤ 2048
+  whole-short = omega (arith, length-shuffled (amounts-under s (held rs) c) whole whole-shuffled, fewer-under s (held rs) c, long, k .few)
+
+  pub whole-sum : sum whole ≡ figure-of s (held rs) c
+  whole-sum = sumBy-shuffled (λ x. x) (amounts-under s (held rs) c) whole whole-shuffled
+
+-- what was told, one chain more
+pub told-chain : (all told chain rest after : List ℕ) → all ≡ told ++ rest → rest ≡ chain ++ after → all ≡ (told ++ chain) ++ after
+told-chain all told chain rest after e d = e ∙ ap (λ t. told ++ t) d ∙ sym (append-assoc told chain after)
+
+pub told-room : (all told chain after : List ℕ) → length all ≤ 2048 → all ≡ (told ++ chain) ++ after → length told + length chain ≤ 2048
+told-room all told chain after h e = omega (arith, simp length-append at (ap length e))
+
+pub told-whole : (all told rest : List ℕ) → all ≡ told ++ rest → rest ≡ [] → told ≡ all
+told-whole all told rest e d = sym (e ∙ ap (λ t. told ++ t) d ∙ append-nil told)
+
+-- the row, by what was computed
+module _ (s : Shape) (meaning : List ℕ → ℕ) (xs : List Contribution) (c figure need : ℕ) (f : figure ≡ figure-of s xs c) (n : need ≡ need-of s meaning xs c) where
+  pub row-sensitive : 0 < need → record { figure = figure; need = need; mark = Sensitive } ≡ settled-row s meaning xs c
+  row-sensitive h =
+      let t : ltb 0 (need-of s meaning xs c) ≡ true = lt-ltb 0 (need-of s meaning xs c) (omega arith) in
+      let m : Sensitive ≡ cond (ltb 0 (need-of s meaning xs c)) Sensitive Open = rw t in
+      λ i. record { figure = f i; need = n i; mark = m i }
+
+  pub row-open : need ≡ 0 → record { figure = figure; need = need; mark = Open } ≡ settled-row s meaning xs c
+  row-open h =
+      let t : ltb 0 (need-of s meaning xs c) ≡ false = le-ltb 0 (need-of s meaning xs c) (omega arith) in
+      let m : Open ≡ cond (ltb 0 (need-of s meaning xs c)) Sensitive Open = rw t in
+      λ i. record { figure = f i; need = n i; mark = m i }

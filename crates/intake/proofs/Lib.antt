@@ -3,3 +3,4 @@ pub mod Shuffles
 pub mod Entered
 pub mod Walking
 pub mod Settles
+pub mod Figures

@@ -20,7 +20,8 @@ use Rattle.layouts.specs.declared.memory.Row.{Row}
 use Rattle.layouts.specs.declared.memory.Mark.{Mark}
 use Rattle.layouts.specs.declared.memory.Mark.the-variants.{Open, Sensitive}
 use Rattle.intake.specs.Contributions.{amounts-under, figure-of, need-of}
-use Rattle.intake.specs.Chains.{held, leaf-list, amount-list, chain-amounts, chains-from}
+use Rattle.intake.specs.Chains.{held, leaf-list, amount-list, next-list, latest, chain-amounts, chains-from}
+use Rattle.intake.specs.Marks.{first-mark}
 use Rattle.intake.specs.Settling.{Chained, settled-row}
 use Rattle.intake.proofs.Shuffles.{under-all}
 
@@ -83,3 +84,24 @@ module _ (s : Shape) (meaning : List ℕ → ℕ) (xs : List Contribution) (c fi
       let t : ltb 0 (need-of s meaning xs c) ≡ false = le-ltb 0 (need-of s meaning xs c) (omega arith) in
       let m : Open ≡ cond (ltb 0 (need-of s meaning xs c)) Sensitive Open = rw t in
       λ i. record { figure = f i; need = n i; mark = m i }
+
+-- one row more is settled, by a rule that means the same
+pub row-meaning : (s : Shape) (m n : List ℕ → ℕ) (xs : List Contribution) (c : ℕ) → ((ys : List ℕ) → m ys ≡ n ys) → settled-row s m xs c ≡ settled-row s n xs c
+row-meaning s m n xs c e =
+    let d = e (amounts-under s xs c) in
+    λ i. record { figure = figure-of s xs c; need = d i; mark = first-mark (d i) }
+
+-- what an intake keeps, by the lengths of its lists
+pub chained-from : (rs : List Record) (heads : List ℕ) (n cells : ℕ) → length rs ≡ n → length heads ≡ cells → n ≤ 2048
+    → ((i : ℕ) → i < n → getD (leaf-list (held rs)) i 0 < cells)
+    → ((i : ℕ) → i < n → getD (amount-list (held rs)) i 0 ≤ 1000000000)
+    → ((l : ℕ) → l < cells → getD heads l 0 ≡ latest l (leaf-list (held rs)) n)
+    → ((i : ℕ) → i < n → getD (next-list rs) i 0 ≡ latest (getD (leaf-list (held rs)) i 0) (leaf-list (held rs)) i)
+    → Chained rs heads
+chained-from rs heads n cells e d few leafy small headed linked = record {
+  few = omega arith;
+  leafy = λ i h. omega (arith, leafy i (omega arith));
+  small = λ i h. small i (omega arith);
+  headed = λ l h. headed l (omega arith) ∙ ap (latest l (leaf-list (held rs))) (sym e);
+  linked = λ i h. linked i (omega arith);
+}

@@ -3,12 +3,15 @@ ghost use mathlib.Core.Path.{_≡_};
 ghost use mathlib.Core.List.{List, _++_};
 ghost use Prim.Native.Nat.{ℕ, _+_, _*_, _<_, _≤_};
 ghost use lib.ListN.{length};
-ghost use Rattle.std.specs.Of.Vec.{vec-len};
+ghost use Rattle.std.specs.Of.Vec.{vec-items, vec-len};
 ghost use Rattle.std.specs.shelf.Lists.{sum};
 ghost use Rattle.layouts.specs.Admission.{shapeOf};
 ghost use Rattle.intake.specs.Chains.{held};
-ghost use Rattle.intake.specs.Settling.{Chained, chain-of, settled-row};
+ghost use Rattle.intake.specs.Settling.{Chained, chain-of, settled-row, settled-rows};
+use crate::held::Intake;
+use crate::settled::Settled;
 use layouts::memory::Mark;
+use layouts::memory::Memory;
 use layouts::memory::Record;
 use layouts::memory::Row;
 use layouts::network::Network;
@@ -54,4 +57,49 @@ fn settle_cell<R: Rule>(rule: &mut R, network: &Network, records: &[Record], hea
     let need = rule.need();
     let mark = if need > 0 { Mark::Sensitive } else { Mark::Open };
     Row { figure, need, mark }
+}
+
+// The rows of all cells.
+fn settle_rows<R: Rule>(rule: &mut R, network: &Network, records: &[Record], heads: &[usize], rows: &mut [Row])
+    requires chained { ⌜ Chained (now records) (now heads) ⌝ }
+    requires wide { ⌜ (length (now heads) ≡ vec-len (now network .leaves)) × (length (now rows) ≡ length (now heads)) ⌝ }
+    ensures { λ _. ⌜ now (rows .exit) ≡ settled-rows (shapeOf (now (network .entry))) (meaning (now (rule .entry))) (held (now (records .entry))) ⌝ }
+{
+    for cell in 0..heads.len() {
+        rows[cell] = settle_cell(rule, network, records, heads, cell);
+    }
+}
+
+impl<R: Rule + Drop> Intake<R> {
+    // Uses the intake up, and gives each cell its figure and its need.
+    pub fn settle(self) -> Settled
+        ensures network { λ r. ⌜ r .network ≡ self .network ⌝ }
+        ensures rows { λ r. ⌜ vec-items (r .rows) ≡ settled-rows (shapeOf (self .network)) (meaning (self .rule)) (held (vec-items (self .memory .records))) ⌝ }
+    {
+        let Intake {
+            mut rule,
+            network,
+            memory,
+        } = self;
+        let Memory {
+            records,
+            heads,
+            pending: _,
+            seen: _,
+            mut rows,
+            marks,
+            table,
+            layer,
+            via,
+        } = memory;
+        settle_rows(&mut rule, &network, &records, &heads, &mut rows);
+        Settled {
+            network,
+            rows,
+            marks,
+            table,
+            layer,
+            via,
+        }
+    }
 }

@@ -1,6 +1,6 @@
 -- What is in memory that nothing was entered into.
-use mathlib.Core.Path.{_≡_, refl, sym, ap, subst, _∙_}
-use mathlib.Core.Bool.{true, false, _&&_}
+use mathlib.Core.Path.{_≡_, refl, sym, ap, _∙_}
+use mathlib.Core.Bool.{true, _&&_}
 use mathlib.Core.List.{List, []}
 use Prim.Native.Nat.{ℕ, _<_}
 use native.Mathlib.Omega.{arith}
@@ -12,9 +12,7 @@ use Rattle.std.proofs.shelf.Lists.{length-replicate, getD-replicate, nil-from-l
 use Rattle.std.proofs.shelf.Tests.{and-parts, eqb-true}
 use Rattle.layouts.specs.declared.memory.Mark.{Mark}
 use Rattle.layouts.specs.declared.memory.Mark.the-variants.{Open, Sensitive, Complement, Printed, Barred}
-use Rattle.layouts.specs.declared.memory.Record.{Record}
 use Rattle.layouts.specs.declared.memory.Row.{Row}
-use Rattle.layouts.specs.declared.memory.Memory.{Memory}
 use Rattle.layouts.specs.declared.admitted.Admitted.{Admitted}
 use Rattle.layouts.specs.Blank.{blank, isOpen, isBlank, Fresh}
 

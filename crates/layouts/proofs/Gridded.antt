@@ -1,17 +1,17 @@
 -- The laws of a grid.
 use mathlib.Core.Path.{_≡_, refl, sym, ap, _∙_}
-use mathlib.Core.Bool.{true, false, cond, _&&_, _||_, not}
+use mathlib.Core.Bool.{true, false, _&&_, not}
 use mathlib.Core.List.{List, [], _∷_}
-use Prim.Native.Nat.{ℕ, _+_, _*_, _/_, _%_, _<_, _≤_}
+use Prim.Native.Nat.{ℕ, _+_, _*_, _<_, _≤_}
 use native.Mathlib.Omega.{arith}
 use lib.Dec.{eqb, ltb}
-use Rattle.std.proofs.shelf.Tests.{and-parts, ltb-true, ne-eqb, eqb-false, not-true}
+use Rattle.std.proofs.shelf.Tests.{and-parts, ltb-true, ne-eqb, not-true}
 use Rattle.std.proofs.shelf.Ways.{tells}
 use Rattle.std.proofs.shelf.Bits.{mul-add-lt, div-mul-add, mod-mul-add}
 use Rattle.sums.specs.Sums.{Apart, Within, passing}
 use Rattle.sums.proofs.CountAmong.{count-among}
 use Rattle.layouts.specs.Shape.{Laws, isLeaf, twoLeaves, leaving, entering}
-use Rattle.layouts.specs.Layouts.{grid, place, row, column, by}
+use Rattle.layouts.specs.Layouts.{grid, place, row, column}
 
 module _ (R C : ℕ) where
   row-place : (r c : ℕ) → c ≤ C → row R C (place R C r c) ≡ r

@@ -6,12 +6,12 @@ use Prim.Native.Nat.{ℕ, _+_, _*_, _<_}
 use native.Mathlib.Omega.{arith}
 use lib.Dec.{eqb, ltb}
 use lib.ListN.{length, getD}
-use Rattle.std.specs.Of.Vec.{vec-items, vec-len}
+use Rattle.std.specs.Of.Vec.{vec-len}
 use Rattle.std.proofs.shelf.Tests.{and-parts, and-from, ltb-true, lt-ltb}
 use Rattle.std.proofs.shelf.Bits.{mul-add-lt, div-mul-add, mod-mul-add}
 use Rattle.sums.specs.Sums.{count-below}
 use Rattle.sums.proofs.SumBelow.{count-same}
-use Rattle.layouts.specs.Shape.{Shape, Laws, Same, isLeaf, twoLeaves, leaving, entering}
+use Rattle.layouts.specs.Shape.{Shape, Laws, Same, isLeaf}
 use Rattle.layouts.specs.Copied.{copied, values, marksOfAll}
 use Rattle.layouts.specs.Admission.{shapeOf}
 use Rattle.layouts.specs.declared.network.Network.{Network}

@@ -1,7 +1,6 @@
 -- When a layout is admitted, and what its network stands for.
 use mathlib.Core.Bool.{Bool, cond, _&&_}
 use mathlib.Core.Path.{_≡_}
-use Prim.Native.Nat.{ℕ}
 use lib.Dec.{leb}
 use Rattle.std.specs.Of.Vec.{vec-items}
 use Rattle.refusals.specs.declared.Refusal.{Refusal}

@@ -1,3 +1,4 @@
+-- The definitions of the crate, in the order in which they are read.
 pub mod Shape
 pub mod Answers
 pub mod Layouts

@@ -1,6 +1,6 @@
 -- The laws of shops in districts.
 use mathlib.Core.Path.{_≡_, refl, sym, _∙_}
-use mathlib.Core.Bool.{true, false, cond, _&&_, not}
+use mathlib.Core.Bool.{true}
 use mathlib.Core.List.{List, [], _∷_}
 use Prim.Native.Nat.{ℕ, _+_, _-_, _*_, _/_, _<_, _≤_}
 use native.Mathlib.Omega.{arith}
@@ -11,7 +11,7 @@ use Rattle.std.proofs.shelf.Bits.{div-below}
 use Rattle.sums.specs.Sums.{Apart, Within, passing}
 use Rattle.sums.proofs.CountAmong.{count-among}
 use Rattle.layouts.specs.Shape.{Laws, isLeaf, leaving, entering}
-use Rattle.own_layouts.specs.Districts.{districts, by}
+use Rattle.own_layouts.specs.Districts.{districts}
 
 module _ (D S : ℕ) (some : 1 ≤ S) where
   district-below : (l : ℕ) → l < D * S → l / S < D

@@ -1,1 +1,2 @@
+-- The definitions of the crate, in the order in which they are read.
 pub mod Districts

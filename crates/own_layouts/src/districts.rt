@@ -44,7 +44,11 @@ pub impl Layout for Districts as DistrictsLayout {
         if cell > shops + self.count {
             return None;
         }
-        Some(if cell < shops { Kind::Leaf } else { Kind::Total })
+        Some(if cell < shops {
+            Kind::Leaf
+        } else {
+            Kind::Total
+        })
     }
 
     fn leaves(&self, cell: usize) -> Option<usize> {

@@ -1,13 +1,13 @@
 -- A count over the numbers below n that asks only of some places is made at those places.
 use mathlib.Core.Path.{_≡_, refl, sym, subst}
-use mathlib.Core.Bool.{Bool, true, false, cond, _&&_, _||_}
+use mathlib.Core.Bool.{Bool, true, false, cond, _&&_}
 use mathlib.Core.List.{List, [], _∷_}
 use mathlib.Core.Logic.{⊎-elim}
 use Prim.Native.Nat.{ℕ, _+_, _<_}
 use native.Mathlib.Omega.{arith}
 use lib.Dec.{eqb}
 use Rattle.std.proofs.shelf.Tests.{eqb-true, eq-eqb, ne-eqb, cases-eq, or-cases}
-use Rattle.sums.specs.Sums.{among, passing, Apart, Within}
+use Rattle.sums.specs.Sums.{among, Within}
 use Rattle.sums.specs.Laws.{Count-among}
 use Rattle.sums.proofs.SumBelow.{sum-same, sum-add, sum-zero, sum-hit}
 

@@ -1,2 +1,3 @@
+-- The lemmas of the crate, for its own proofs and for those of the crates above.
 pub mod SumBelow
 pub mod CountAmong

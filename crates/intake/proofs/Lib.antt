@@ -4,3 +4,4 @@ pub mod Entered
 pub mod Walking
 pub mod Settles
 pub mod Figures
+pub mod Deposits

@@ -59,7 +59,7 @@ impl<R: Drop> Intake<R> {
         requires { ⌜ (isLeaf (shapeOf (now self .network)) (x .leaf) ≡ true) × (x .amount ≤ 1000000000) × (vec-len (now self .memory .records) < 2048) ⌝ }
         ensures number { λ r. ⌜ r ≡ length (held (vec-items (now (self .entry) .memory .records))) + 1 ⌝ }
         ensures held { λ _. ⌜ held (vec-items (now (self .exit) .memory .records)) ≡ held (vec-items (now (self .entry) .memory .records)) ++ x ∷ [] ⌝ }
-        ensures same { λ _. ⌜ (now (self .exit) .network ≡ now (self .entry) .network) × (now (self .exit) .rule ≡ now (self .entry) .rule) ⌝ }
+        ensures same { λ _. ⌜ (now (self .exit) .network ≡ now (self .entry) .network) × (now (self .exit) .rule ≡ now (self .entry) .rule) × (now (self .exit) .memory .pending ≡ now (self .entry) .memory .pending) ⌝ }
     {
         let next = self.memory.heads[x.leaf];
         self.memory.records.push_reserved(Record {

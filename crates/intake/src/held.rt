@@ -1,8 +1,8 @@
 // An intake: the contributions entered so far, and the chain of each leaf through them.
 ghost use mathlib.Core.Path.{_≡_};
-ghost use mathlib.Core.Bool.{false, true};
+ghost use mathlib.Core.Bool.{true};
 ghost use Prim.Native.Nat.{ℕ, _<_, _≤_};
-ghost use lib.ListN.{getD, replicate};
+ghost use lib.ListN.{getD};
 ghost use Rattle.std.specs.Of.Vec.{vec-cap, vec-items, vec-len};
 ghost use Rattle.layouts.specs.Admission.{shapeOf};
 ghost use Rattle.layouts.specs.Shape.{isLeaf};
@@ -16,8 +16,7 @@ pub struct Intake<R> {
     pub(crate) network: Network,
     pub(crate) memory: Memory,
     ghost few: { vec-len (memory .records) ≤ 2048 },
-    ghost room: { (2048 ≤ vec-cap (memory .records)) × (2048 ≤ vec-cap (memory .pending)) × (vec-len (memory .pending) ≡ 0) },
-    ghost unseen: { vec-items (memory .seen) ≡ replicate 2048 false },
+    ghost room: { (2048 ≤ vec-cap (memory .records)) × (2048 ≤ vec-cap (memory .pending)) × (vec-len (memory .seen) ≡ 2048) },
     ghost leafy: { ((i : ℕ) → i < vec-len (memory .records) → isLeaf (shapeOf network) (getD (leaf-list (held (vec-items (memory .records)))) i 0) ≡ true) },
     ghost small: { ((i : ℕ) → i < vec-len (memory .records) → getD (amount-list (held (vec-items (memory .records)))) i 0 ≤ 1000000000) },
     ghost headed: { ((l : ℕ) → l < vec-len (network .leaves) → getD (vec-items (memory .heads)) l 0 ≡ latest l (leaf-list (held (vec-items (memory .records)))) (vec-len (memory .records))) },

@@ -52,13 +52,12 @@ ghost-self g c =
     let before = getD-read heads (x .leaf) next (omega arith) (c .index-next .ensures) 0 ∙ s .headed (x .leaf) inside in
     (omega arith,
     ((omega (arith, c .push-reserved .ensures .capacity, s .room .0), s .room .1, s .room .2),
-    (s .unseen,
     (leafy-more rs ys r n m long more count (λ l. isLeaf (shapeOf (s .network)) l ≡ true) (s .leafy) (c .pre .0),
     (small-more rs ys r n m long more count (λ a. a ≤ 1000000000) (s .small) (c .pre .1),
     (rw number (headed-more rs ys r n m long more count heads cells wide (s .headed)),
     (linked-more rs ys r n m long more count before (s .linked),
     (s .celled,
-    (s .related, tt)))))))))
+    (s .related, tt))))))))
 
 pub returns : need.returns
 returns g c =
@@ -72,5 +71,5 @@ returns g c =
     record {
       number = c .len-number .ensures ∙ count ∙ ap (λ k. k + 1) (sym (held-long rs ys r n _ long (c .push-reserved .ensures .items) count));
       held = held-more rs ys r n _ long (c .push-reserved .ensures .items) count;
-      same = (refl, refl);
+      same = (refl, refl, refl);
     }

@@ -1,26 +1,22 @@
 -- The tests are those of the answer, in their order.
 use mathlib.Core.Path.{_≡_, refl, sym, ap, _∙_}
-use mathlib.Core.Bool.{Bool, true, false}
+use mathlib.Core.Bool.{true}
 use Prim.Native.Nat.{ℕ, _+_, _<_, _≤_}
 use native.Mathlib.Omega.{arith}
 use lib.Dec.{ltb}
-use lib.ListN.{length, getD}
-use Rattle.std.specs.Of.Vec.{vec-items, vec-len}
+use lib.ListN.{length}
+use Rattle.std.specs.Of.Vec.{vec-len}
 use Rattle.std.specs.declared.result.Result.the-variants.{Ok}
-use Rattle.std.proofs.shelf.Lists.{getD-read}
 use Rattle.std.proofs.shelf.Tests.{and-from, lt-ltb, true≢false}
 use Rattle.layouts.specs.Admission.{shapeOf}
 use Rattle.layouts.specs.declared.network.Network.{Network}
 use Rattle.layouts.proofs.Kept.{network-cells}
+use Rattle.intake.proofs.Deposits.{leaf-marked}
 use Rattle.intake.proofs.Entered.{held-count, too-many, accepts}
 use Rattle.intake.proofs.held.Intake.enter.Needs as need
 
 inside : (n : Network) (l : ℕ) → l < vec-len (n .leaves) → l < shapeOf n .cells
 inside n l h = omega (arith, network-cells n)
-
--- what was read of the leaf's mark
-leaf-read : (n : Network) (l : ℕ) (b : Bool) → l < vec-len (n .leaves) → b ≡ getD (vec-items (n .leaf)) l b → b ≡ true → shapeOf n .leaf l ≡ true
-leaf-read n l b h e d = sym (getD-read (vec-items (n .leaf)) l b (omega (arith, n .leaf .ok .0, n .level .1)) e false) ∙ d
 
 pub returns-then-len-ge-MOST-CONTRIBUTIONS : need.returns-then-len-ge-MOST-CONTRIBUTIONS
 returns-then-len-ge-MOST-CONTRIBUTIONS g c =
@@ -28,7 +24,7 @@ returns-then-len-ge-MOST-CONTRIBUTIONS g c =
     let l = c .args .x .leaf in
     let h : l < vec-len (n .leaves) = omega arith in
     record {
-      answer = too-many (shapeOf n) _ (c .args .x) (inside n l h) (leaf-read n l _ h (c .index .ensures) (c .if-not-index .left)) (c .if-x-gt-LARGEST-AMOUNT .left)
+      answer = too-many (shapeOf n) _ (c .args .x) (inside n l h) (leaf-marked n l _ true h (c .index .ensures) (c .if-not-index .left)) (c .if-x-gt-LARGEST-AMOUNT .left)
           (omega (arith, held-count (c .args .self .now .memory .records)));
       held = refl;
       same = (refl, refl);
@@ -40,7 +36,7 @@ append-requires g c κs =
     let n = c .args .self .now .network in
     let l = c .args .x .leaf in
     let h : l < vec-len (n .leaves) = omega arith in
-    (and-from (ltb l (shapeOf n .cells)) (shapeOf n .leaf l) (lt-ltb l (shapeOf n .cells) (inside n l h)) (leaf-read n l _ h (c .index .ensures) (c .if-not-index .left)),
+    (and-from (ltb l (shapeOf n .cells)) (shapeOf n .leaf l) (lt-ltb l (shapeOf n .cells) (inside n l h)) (leaf-marked n l _ true h (c .index .ensures) (c .if-not-index .left)),
      c .if-x-gt-LARGEST-AMOUNT .left, omega arith)
 
 pub returns : need.returns
@@ -49,9 +45,9 @@ returns g c =
     let l = c .args .x .leaf in
     let h : l < vec-len (n .leaves) = omega arith in
     record {
-      answer = ap Ok (c .append .ensures .number) ∙ accepts (shapeOf n) _ (c .args .x) (inside n l h) (leaf-read n l _ h (c .index .ensures) (c .if-not-index .left)) (c .if-x-gt-LARGEST-AMOUNT .left)
+      answer = ap Ok (c .append .ensures .number) ∙ accepts (shapeOf n) _ (c .args .x) (inside n l h) (leaf-marked n l _ true h (c .index .ensures) (c .if-not-index .left)) (c .if-x-gt-LARGEST-AMOUNT .left)
           (omega (arith, held-count (c .args .self .now .memory .records)));
       held = c .append .ensures .held;
-      same = c .append .ensures .same;
+      same = (c .append .ensures .same .0, c .append .ensures .same .1);
       untouched = λ e. absurd (true≢false e);
     }

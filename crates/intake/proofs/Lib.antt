@@ -5,3 +5,5 @@ pub mod Walking
 pub mod Settles
 pub mod Figures
 pub mod Deposits
+pub mod Goods
+pub mod Loads

@@ -72,13 +72,20 @@ module _ (s : Shape) (bytes : List ℕ) (records : ℕ) where
 abbrev pub fitting : List ℕ → Bool
 fitting bytes = not (ltb (length bytes) 8) && eqb (length bytes) (8 + 4 * cell-count bytes + 12 * record-count bytes)
 
--- What a deposit holds, in the order of its chains, for an intake that holds so many contributions already; or why it is refused.
-abbrev pub deposited : Shape → ℕ → List ℕ → Result (List Contribution) Refusal
-deposited s held bytes =
+-- the record count, for a layout of so many cells and an intake that holds so many contributions already; or why it is refused
+abbrev pub counted : ℕ → ℕ → List ℕ → Result ℕ Refusal
+counted cells held bytes =
     cond (not (fitting bytes)) (Err DepositLength)
-    (cond (not (eqb (cell-count bytes) (s .cells))) (Err DepositCells)
-    (cond (ltb 2048 (held + record-count bytes)) (Err TooManyContributions)
-    (walk s bytes (record-count bytes) (s .cells) 0 (replicate (record-count bytes) false))))
+    (cond (not (eqb (cell-count bytes) cells)) (Err DepositCells)
+    (cond (ltb 2048 (held + record-count bytes)) (Err TooManyContributions) (Ok (record-count bytes))))
+
+abbrev pub and-read : Result ℕ Refusal → (ℕ → Result (List Contribution) Refusal) → Result (List Contribution) Refusal
+and-read (Ok q) read = read q
+and-read (Err e) read = Err e
+
+-- what a deposit holds, in the order of its chains; or why it is refused
+abbrev pub deposited : Shape → ℕ → List ℕ → Result (List Contribution) Refusal
+deposited s held bytes = and-read (counted (s .cells) held bytes) (λ q. walk s bytes q (s .cells) 0 (replicate q false))
 
 -- what loading answers: the record count
 abbrev pub load-answer : Result (List Contribution) Refusal → List ℕ → Result ℕ Refusal

@@ -10,6 +10,7 @@ use Rattle.std.specs.Of.Vec.{vec-cap, vec-items, vec-len}
 use Rattle.std.specs.declared.result.Result.{Result}
 use Rattle.std.specs.declared.result.Result.the-variants.{Ok, Err}
 use Rattle.std.proofs.shelf.Lists.{append-nil}
+use Rattle.std.proofs.shelf.Tests.{true≢false}
 use Rattle.refusals.specs.declared.Refusal.{Refusal}
 use Rattle.layouts.specs.Admission.{shapeOf}
 use Rattle.layouts.specs.declared.memory.Contribution.{Contribution}
@@ -118,6 +119,7 @@ returns-then-not-index c =
           ∙ ap (after-these (vec-items (c .loop-cell .pending))) (walk-total s (c .args .bytes .now) (length (c .args .seen .now)) i k (c .loop-cell .seen) inside
             (λ e. c .if-link-ne0 .taken (c .word-link .ensures ∙ e)) (leaf-marked n i _ false inside (c .index .ensures) (c .if-not-index .taken)));
       capacity = c .loop-cell .inv .2;
+      many = λ e. absurd (true≢false e);
     }
 
 pub returns-then-link-records : need.returns-then-link-records
@@ -132,6 +134,7 @@ returns-then-link-records c =
       walked = c .loop-cell .inv .0 ∙ c .loop-link .inv .0
           ∙ ap (after-these (vec-items (c .loop-link .pending))) (chain-beyond s b q i (c .loop-link .seen) (c .loop-link .link) (walk s b q (k - (i + 1)) (i + 1)) (unseen (c .loop-link .seen)) (c .loop-link-test .taken) (c .if-link-records .taken));
       capacity = c .loop-link .inv .2;
+      many = λ e. absurd (true≢false e);
     }
 
 pub returns-then-seen-link : need.returns-then-seen-link
@@ -146,6 +149,7 @@ returns-then-seen-link c =
       walked = c .loop-cell .inv .0 ∙ c .loop-link .inv .0
           ∙ ap (after-these (vec-items (c .loop-link .pending))) (chain-reached s b q i (c .loop-link .seen) (c .loop-link .link) (walk s b q (k - (i + 1)) (i + 1)) (unseen (c .loop-link .seen)) (c .loop-link-test .taken) (c .if-link-records .left) (c .if-seen-link .taken));
       capacity = c .loop-link .inv .2;
+      many = λ e. absurd (true≢false e);
     }
 
 pub returns-then-x-gt-LARGEST-AMOUNT : need.returns-then-x-gt-LARGEST-AMOUNT
@@ -166,6 +170,7 @@ returns-then-x-gt-LARGEST-AMOUNT c =
       walked = c .loop-cell .inv .0 ∙ c .loop-link .inv .0
           ∙ ap (after-these (vec-items (c .loop-link .pending))) (chain-large s b q i seen l (walk s b q (k - (i + 1)) (i + 1)) (c .loop-link-test .taken) (c .if-link-records .left) some (c .if-seen-link .left) large);
       capacity = c .loop-link .inv .2;
+      many = λ e. absurd (true≢false e);
     }
 
 pub returns-then-len-records : need.returns-then-len-records
@@ -179,6 +184,7 @@ returns-then-len-records c =
       walked = c .loop-cell .inv .0
           ∙ ap (after-these (vec-items (c .loop-cell .pending))) (walk-unreached s (c .args .bytes .now) (length (c .args .seen .now)) i k (c .loop-cell .seen) end (omega (arith, c .loop-cell .inv .1)));
       capacity = c .loop-cell .inv .2;
+      many = λ e. absurd (true≢false e);
     }
 
 pub returns-else-len-records : need.returns-else-len-records
@@ -193,4 +199,5 @@ returns-else-len-records c =
           ∙ ap (after-these (vec-items (c .loop-cell .pending))) (walk-all s (c .args .bytes .now) (length (c .args .seen .now)) i k (c .loop-cell .seen) end (omega (arith, c .loop-cell .inv .1)))
           ∙ ap Ok (append-nil (vec-items (c .loop-cell .pending)));
       capacity = c .loop-cell .inv .2;
+      many = λ _. omega (arith, c .loop-cell .inv .1);
     }

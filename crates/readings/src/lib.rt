@@ -1,4 +1,5 @@
 // Readings of a table of which some cells are withheld, which cells they expose, and the engine that finds out.
+mod audit;
 mod paths;
 pub mod theorems;
 mod trial;

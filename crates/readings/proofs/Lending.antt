@@ -1,0 +1,79 @@
+-- What the engine is lent is fit for an audit.
+use mathlib.Core.Path.{_≡_, refl, sym, _∙_, ap, subst}
+use mathlib.Core.Bool.{Bool, true, false}
+use mathlib.Core.List.{List, []}
+use Prim.Native.Nat.{ℕ, _+_, _≤_, _<_, _^_}
+use native.Mathlib.Omega.{arith}
+use lib.ListN.{length, getD}
+use Rattle.std.specs.Of.Vec.{vec-items, vec-len}
+use Rattle.std.proofs.shelf.Tests.{eq-eqb, ltb-true}
+use Rattle.std.specs.declared.option.Option.{Option}
+use Rattle.refusals.specs.declared.Side.{Side}
+use Rattle.layouts.specs.declared.memory.Row.{Row}
+use Rattle.layouts.specs.declared.network.Network.{Network}
+use Rattle.layouts.specs.Shape.{Shape}
+use Rattle.layouts.specs.Copied.{copied}
+use Rattle.layouts.specs.Admission.{shapeOf}
+use Rattle.readings.specs.Balance.{Balanced, Sound}
+use Rattle.readings.specs.Readings.{Reading, Witness}
+use Rattle.readings.specs.Exposure.{audit, exposed?, first-from}
+use Rattle.readings.specs.Paths.{arcs, at, withheld-by}
+use Rattle.readings.specs.Rows.{figures, looked-at, needs}
+use Rattle.readings.specs.Theorems.{Fit}
+
+-- Which leaves count under a cell plays no part in its exposure, nor in readings.
+module _ (n : Network) where
+  abbrev network-arcs : Shape
+  network-arcs = arcs (n .relations) (vec-items (n .leaves)) (vec-items (n .enters))
+
+  pub same-exposed : (withheld : ℕ → Bool) (v : ℕ → ℕ) (k t : ℕ) (side : Side) → exposed? network-arcs withheld v k t side ≡ exposed? (shapeOf n) withheld v k t side
+  unfolding exposed?
+  same-exposed withheld v k t side = refl
+
+  pub same-audit : (rows : List Row) (withheld : ℕ → Bool) → audit (looked-at network-arcs rows) withheld ≡ audit (looked-at (shapeOf n) rows) withheld
+  unfolding exposed?
+  same-audit rows withheld = refl
+
+  pub same-witness : (withheld : ℕ → Bool) (v : ℕ → ℕ) (k t : ℕ) (side : Side) (y : ℕ → ℕ) → Witness network-arcs withheld v k t side y → Witness (shapeOf n) withheld v k t side y
+  same-witness withheld v k t side y w =
+      record { reading = record { balanced = w .reading .balanced; true-figures = w .reading .true-figures }; away = w .away }
+
+-- The rows and marks that are lent, with the network's relations as slices.
+module _ (n : Network) (rows : List Row) (marks leaves enters : List ℕ) (is-leaves : leaves ≡ vec-items (n .leaves)) (is-enters : enters ≡ vec-items (n .enters))
+    (len : length leaves ≡ vec-len (n .leaves)) where
+  pub same-arcs : arcs (n .relations) leaves enters ≡ network-arcs n
+  same-arcs = subst (λ (l : List ℕ). arcs (n .relations) l enters ≡ network-arcs n) (sym is-leaves) (ap (arcs (n .relations) (vec-items (n .leaves))) is-enters)
+
+  pub lent-sound : Sound (arcs (n .relations) leaves enters)
+  lent-sound = record {
+    left = λ c l. subst (λ (xs : List ℕ). getD xs c 0 < n .relations) (sym is-leaves) (n .left c (omega arith));
+    entered = λ c l. subst (λ (xs : List ℕ). getD xs c 0 < n .relations) (sym is-enters) (n .entered c (omega arith));
+  }
+
+  pub lent-balanced : Balanced (shapeOf n) (figures rows) → Balanced (arcs (n .relations) leaves enters) (figures rows)
+  lent-balanced b = subst (λ (sh : Shape). Balanced sh (figures rows)) (sym same-arcs) b
+
+  pub lent-hidden : ((c : ℕ) → c < vec-len (n .leaves) → 0 < needs rows c → getD marks c 0 ≡ 1) → (c : ℕ) → c < vec-len (n .leaves) → 0 < needs rows c → withheld-by marks c ≡ true
+  lent-hidden h c l some = eq-eqb (getD marks c 0) 1 (h c l some)
+
+  pub lent-fit : Balanced (shapeOf n) (figures rows) → ((c : ℕ) → c < vec-len (n .leaves) → needs rows c ≤ figures rows c)
+      → ((c : ℕ) → c < vec-len (n .leaves) → 0 < needs rows c → getD marks c 0 ≡ 1) → Fit (looked-at (arcs (n .relations) leaves enters) rows) (withheld-by marks)
+  lent-fit b within hidden = record {
+    sound = lent-sound;
+    balanced = lent-balanced b;
+    hidden = λ c l s. lent-hidden hidden c (omega arith) (ltb-true 0 (needs rows c) s);
+    within = λ c l _. within c (omega arith);
+  }
+
+  -- the answers, over the network's own shape
+  pub lent-audit : (r : Option (ℕ × Side)) → r ≡ audit (looked-at (arcs (n .relations) leaves enters) rows) (withheld-by marks) → r ≡ audit (looked-at (shapeOf n) rows) (withheld-by marks)
+  lent-audit r e = e ∙ ap (λ (sh : Shape). audit (looked-at sh rows) (withheld-by marks)) same-arcs ∙ same-audit n rows (withheld-by marks)
+
+  pub lent-exposed : (r : Bool) (t : ℕ) (side : Side) → r ≡ exposed? (arcs (n .relations) leaves enters) (withheld-by marks) (figures rows) (needs rows t) t side
+      → r ≡ exposed? (shapeOf n) (withheld-by marks) (figures rows) (needs rows t) t side
+  lent-exposed r t side e = e ∙ ap (λ (sh : Shape). exposed? sh (withheld-by marks) (figures rows) (needs rows t) t side) same-arcs ∙ same-exposed n (withheld-by marks) (figures rows) (needs rows t) t side
+
+  pub lent-witness : (t : ℕ) (side : Side) (y : ℕ → ℕ) → Witness (arcs (n .relations) leaves enters) (withheld-by marks) (figures rows) (needs rows t) t side y
+      → Witness (shapeOf n) (withheld-by marks) (figures rows) (needs rows t) t side y
+  lent-witness t side y w =
+      same-witness n (withheld-by marks) (figures rows) (needs rows t) t side y (subst (λ (sh : Shape). Witness sh (withheld-by marks) (figures rows) (needs rows t) t side y) same-arcs w)

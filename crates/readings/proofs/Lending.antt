@@ -8,6 +8,8 @@ use lib.ListN.{length, getD}
 use Rattle.std.specs.Of.Vec.{vec-items, vec-len}
 use Rattle.std.proofs.shelf.Tests.{eq-eqb, ltb-true}
 use Rattle.std.specs.declared.option.Option.{Option}
+use Rattle.std.specs.declared.result.Result.{Result}
+use Rattle.refusals.specs.declared.Refusal.{Refusal}
 use Rattle.refusals.specs.declared.Side.{Side}
 use Rattle.layouts.specs.declared.memory.Row.{Row}
 use Rattle.layouts.specs.declared.network.Network.{Network}
@@ -20,6 +22,7 @@ use Rattle.readings.specs.Exposure.{audit, exposed?, first-from}
 use Rattle.readings.specs.Paths.{arcs, at, withheld-by}
 use Rattle.readings.specs.Rows.{figures, looked-at, needs}
 use Rattle.readings.specs.Theorems.{Fit}
+use Rattle.readings.specs.Witnesses.{witness-answer}
 
 -- Which leaves count under a cell plays no part in its exposure, nor in readings.
 module _ (n : Network) where
@@ -33,6 +36,11 @@ module _ (n : Network) where
   pub same-audit : (rows : List Row) (withheld : ℕ → Bool) → audit (looked-at network-arcs rows) withheld ≡ audit (looked-at (shapeOf n) rows) withheld
   unfolding exposed?
   same-audit rows withheld = refl
+
+  pub same-answer : (rows : List Row) (withheld : ℕ → Bool) (cell : ℕ) (side : Side) (memory : ℕ)
+      → witness-answer (looked-at network-arcs rows) withheld cell side memory ≡ witness-answer (looked-at (shapeOf n) rows) withheld cell side memory
+  unfolding exposed?
+  same-answer rows withheld cell side memory = refl
 
   pub same-witness : (withheld : ℕ → Bool) (v : ℕ → ℕ) (k t : ℕ) (side : Side) (y : ℕ → ℕ) → Witness network-arcs withheld v k t side y → Witness (shapeOf n) withheld v k t side y
   same-witness withheld v k t side y w =
@@ -77,3 +85,8 @@ module _ (n : Network) (rows : List Row) (marks leaves enters : List ℕ) (is-le
       → Witness (shapeOf n) (withheld-by marks) (figures rows) (needs rows t) t side y
   lent-witness t side y w =
       same-witness n (withheld-by marks) (figures rows) (needs rows t) t side y (subst (λ (sh : Shape). Witness sh (withheld-by marks) (figures rows) (needs rows t) t side y) same-arcs w)
+
+  pub lent-answer : (cell : ℕ) (side : Side) (memory : ℕ) (r : Result ℕ Refusal) → r ≡ witness-answer (looked-at (arcs (n .relations) leaves enters) rows) (withheld-by marks) cell side memory
+      → r ≡ witness-answer (looked-at (shapeOf n) rows) (withheld-by marks) cell side memory
+  lent-answer cell side memory r e =
+      e ∙ ap (λ (sh : Shape). witness-answer (looked-at sh rows) (withheld-by marks) cell side memory) same-arcs ∙ same-answer n rows (withheld-by marks) cell side memory

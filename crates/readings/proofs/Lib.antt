@@ -10,3 +10,4 @@ pub mod Reaching
 pub mod Walking
 pub mod Tried
 pub mod Lending
+pub mod Written

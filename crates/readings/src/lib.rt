@@ -5,3 +5,4 @@ mod paths;
 pub mod theorems;
 mod trial;
 pub mod trials;
+mod witness;

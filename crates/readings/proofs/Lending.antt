@@ -5,7 +5,11 @@ use mathlib.Core.List.{List, []}
 use Prim.Native.Nat.{ℕ, _+_, _≤_, _<_, _^_}
 use native.Mathlib.Omega.{arith}
 use lib.ListN.{length, getD}
+use Rattle.std.specs.Changed.{refilled}
 use Rattle.std.specs.Of.Vec.{vec-items, vec-len}
+use Rattle.std.specs.declared.alloc.Global.{Global}
+use Rattle.std.specs.declared.vec.Vec.{Vec}
+use Rattle.std.proofs.shelf.Lists.{refilled-is}
 use Rattle.std.proofs.shelf.Tests.{eq-eqb, ltb-true}
 use Rattle.std.specs.declared.option.Option.{Option}
 use Rattle.std.specs.declared.result.Result.{Result}
@@ -29,10 +33,6 @@ module _ (n : Network) where
   abbrev network-arcs : Shape
   network-arcs = arcs (n .relations) (vec-items (n .leaves)) (vec-items (n .enters))
 
-  pub same-exposed : (withheld : ℕ → Bool) (v : ℕ → ℕ) (k t : ℕ) (side : Side) → exposed? network-arcs withheld v k t side ≡ exposed? (shapeOf n) withheld v k t side
-  unfolding exposed?
-  same-exposed withheld v k t side = refl
-
   pub same-audit : (rows : List Row) (withheld : ℕ → Bool) → audit (looked-at network-arcs rows) withheld ≡ audit (looked-at (shapeOf n) rows) withheld
   unfolding exposed?
   same-audit rows withheld = refl
@@ -46,47 +46,49 @@ module _ (n : Network) where
   same-witness withheld v k t side y w =
       record { reading = record { balanced = w .reading .balanced; true-figures = w .reading .true-figures }; away = w .away }
 
--- The rows and marks that are lent, with the network's relations as slices.
-module _ (n : Network) (rows : List Row) (marks leaves enters : List ℕ) (is-leaves : leaves ≡ vec-items (n .leaves)) (is-enters : enters ≡ vec-items (n .enters))
+-- The rows that are lent, with the marks and the network's relations as slices.
+module _ (n : Network) (rows : List Row) (marks slice leaves enters : List ℕ) (is-marks : slice ≡ marks) (is-leaves : leaves ≡ vec-items (n .leaves)) (is-enters : enters ≡ vec-items (n .enters))
     (len : length leaves ≡ vec-len (n .leaves)) where
-  pub same-arcs : arcs (n .relations) leaves enters ≡ network-arcs n
+  same-arcs : arcs (n .relations) leaves enters ≡ network-arcs n
   same-arcs = subst (λ (l : List ℕ). arcs (n .relations) l enters ≡ network-arcs n) (sym is-leaves) (ap (arcs (n .relations) (vec-items (n .leaves))) is-enters)
 
-  pub lent-sound : Sound (arcs (n .relations) leaves enters)
+  lent-sound : Sound (arcs (n .relations) leaves enters)
   lent-sound = record {
     left = λ c l. subst (λ (xs : List ℕ). getD xs c 0 < n .relations) (sym is-leaves) (n .left c (omega arith));
     entered = λ c l. subst (λ (xs : List ℕ). getD xs c 0 < n .relations) (sym is-enters) (n .entered c (omega arith));
   }
 
-  pub lent-balanced : Balanced (shapeOf n) (figures rows) → Balanced (arcs (n .relations) leaves enters) (figures rows)
-  lent-balanced b = subst (λ (sh : Shape). Balanced sh (figures rows)) (sym same-arcs) b
-
-  pub lent-hidden : ((c : ℕ) → c < vec-len (n .leaves) → 0 < needs rows c → getD marks c 0 ≡ 1) → (c : ℕ) → c < vec-len (n .leaves) → 0 < needs rows c → withheld-by marks c ≡ true
-  lent-hidden h c l some = eq-eqb (getD marks c 0) 1 (h c l some)
-
   pub lent-fit : Balanced (shapeOf n) (figures rows) → ((c : ℕ) → c < vec-len (n .leaves) → needs rows c ≤ figures rows c)
-      → ((c : ℕ) → c < vec-len (n .leaves) → 0 < needs rows c → getD marks c 0 ≡ 1) → Fit (looked-at (arcs (n .relations) leaves enters) rows) (withheld-by marks)
+      → ((c : ℕ) → c < vec-len (n .leaves) → 0 < needs rows c → getD marks c 0 ≡ 1) → Fit (looked-at (arcs (n .relations) leaves enters) rows) (withheld-by slice)
   lent-fit b within hidden = record {
     sound = lent-sound;
-    balanced = lent-balanced b;
-    hidden = λ c l s. lent-hidden hidden c (omega arith) (ltb-true 0 (needs rows c) s);
+    balanced = subst (λ (sh : Shape). Balanced sh (figures rows)) (sym same-arcs) b;
+    hidden = λ c l s. eq-eqb (getD slice c 0) 1 (ap (λ (xs : List ℕ). getD xs c 0) is-marks ∙ hidden c (omega arith) (ltb-true 0 (needs rows c) s));
     within = λ c l _. within c (omega arith);
   }
 
   -- the answers, over the network's own shape
-  pub lent-audit : (r : Option (ℕ × Side)) → r ≡ audit (looked-at (arcs (n .relations) leaves enters) rows) (withheld-by marks) → r ≡ audit (looked-at (shapeOf n) rows) (withheld-by marks)
-  lent-audit r e = e ∙ ap (λ (sh : Shape). audit (looked-at sh rows) (withheld-by marks)) same-arcs ∙ same-audit n rows (withheld-by marks)
+  pub lent-audit : (r : Option (ℕ × Side)) → r ≡ audit (looked-at (arcs (n .relations) leaves enters) rows) (withheld-by slice) → r ≡ audit (looked-at (shapeOf n) rows) (withheld-by marks)
+  lent-audit r e =
+      e ∙ ap (λ (sh : Shape). audit (looked-at sh rows) (withheld-by slice)) same-arcs ∙ same-audit n rows (withheld-by slice)
+      ∙ ap (λ (xs : List ℕ). audit (looked-at (shapeOf n) rows) (withheld-by xs)) is-marks
 
-  pub lent-exposed : (r : Bool) (t : ℕ) (side : Side) → r ≡ exposed? (arcs (n .relations) leaves enters) (withheld-by marks) (figures rows) (needs rows t) t side
-      → r ≡ exposed? (shapeOf n) (withheld-by marks) (figures rows) (needs rows t) t side
-  lent-exposed r t side e = e ∙ ap (λ (sh : Shape). exposed? sh (withheld-by marks) (figures rows) (needs rows t) t side) same-arcs ∙ same-exposed n (withheld-by marks) (figures rows) (needs rows t) t side
-
-  pub lent-witness : (t : ℕ) (side : Side) (y : ℕ → ℕ) → Witness (arcs (n .relations) leaves enters) (withheld-by marks) (figures rows) (needs rows t) t side y
-      → Witness (shapeOf n) (withheld-by marks) (figures rows) (needs rows t) t side y
-  lent-witness t side y w =
-      same-witness n (withheld-by marks) (figures rows) (needs rows t) t side y (subst (λ (sh : Shape). Witness sh (withheld-by marks) (figures rows) (needs rows t) t side y) same-arcs w)
-
-  pub lent-answer : (cell : ℕ) (side : Side) (memory : ℕ) (r : Result ℕ Refusal) → r ≡ witness-answer (looked-at (arcs (n .relations) leaves enters) rows) (withheld-by marks) cell side memory
+  pub lent-answer : (cell : ℕ) (side : Side) (memory : ℕ) (r : Result ℕ Refusal) → r ≡ witness-answer (looked-at (arcs (n .relations) leaves enters) rows) (withheld-by slice) cell side memory
       → r ≡ witness-answer (looked-at (shapeOf n) rows) (withheld-by marks) cell side memory
   lent-answer cell side memory r e =
-      e ∙ ap (λ (sh : Shape). witness-answer (looked-at sh rows) (withheld-by marks) cell side memory) same-arcs ∙ same-answer n rows (withheld-by marks) cell side memory
+      e ∙ ap (λ (sh : Shape). witness-answer (looked-at sh rows) (withheld-by slice) cell side memory) same-arcs ∙ same-answer n rows (withheld-by slice) cell side memory
+      ∙ ap (λ (xs : List ℕ). witness-answer (looked-at (shapeOf n) rows) (withheld-by xs) cell side memory) is-marks
+
+  pub lent-witness : (t : ℕ) (side : Side) (y : ℕ → ℕ) → Witness (arcs (n .relations) leaves enters) (withheld-by slice) (figures rows) (needs rows t) t side y
+      → Witness (shapeOf n) (withheld-by marks) (figures rows) (needs rows t) t side y
+  lent-witness t side y w =
+      subst (λ (xs : List ℕ). Witness (shapeOf n) (withheld-by xs) (figures rows) (needs rows t) t side y) is-marks
+      (same-witness n (withheld-by slice) (figures rows) (needs rows t) t side y (subst (λ (sh : Shape). Witness sh (withheld-by slice) (figures rows) (needs rows t) t side y) same-arcs w))
+
+-- The vector of the marks, once the slice of it has come back as it was.
+module _ (v : Vec ℕ Global) (slice ws : List ℕ) (value : slice ≡ vec-items v) (len : length slice ≡ vec-len v) (kept : ws ≡ slice) where
+  pub refilled-kept : vec-items (refilled v ws) ≡ vec-items v
+  refilled-kept = refilled-is v ws (ap length kept ∙ len) ∙ kept ∙ value
+
+  pub refilled-hidden : (n : ℕ) (need : ℕ → ℕ) → ((c : ℕ) → c < n → 0 < need c → getD (vec-items v) c 0 ≡ 1) → (c : ℕ) → c < n → 0 < need c → getD (vec-items (refilled v ws)) c 0 ≡ 1
+  refilled-hidden n need h c l s = ap (λ (xs : List ℕ). getD xs c 0) refilled-kept ∙ h c l s

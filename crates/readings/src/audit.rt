@@ -32,10 +32,32 @@ fn exposed_at(
     if need_of(rows, cell) == 0 {
         return None;
     }
-    if trial(relations, leaves, enters, rows, marks, table, layer, via, Side::Up, cell) {
+    if trial(
+        relations,
+        leaves,
+        enters,
+        rows,
+        marks,
+        table,
+        layer,
+        via,
+        Side::Up,
+        cell,
+    ) {
         return Some((cell, Side::Up));
     }
-    if trial(relations, leaves, enters, rows, marks, table, layer, via, Side::Down, cell) {
+    if trial(
+        relations,
+        leaves,
+        enters,
+        rows,
+        marks,
+        table,
+        layer,
+        via,
+        Side::Down,
+        cell,
+    ) {
         return Some((cell, Side::Down));
     }
     None
@@ -59,7 +81,17 @@ pub(crate) fn first_exposed(
     ensures says { λ r. ⌜ r ≡ audit (looked-at (arcs relations (now (leaves .entry)) (now (enters .entry))) (now (rows .entry))) (withheld-by (now (marks .entry))) ⌝ }
 {
     for cell in 0..leaves.len() {
-        if let Some(found) = exposed_at(relations, leaves, enters, rows, marks, table, layer, via, cell) {
+        if let Some(found) = exposed_at(
+            relations,
+            leaves,
+            enters,
+            rows,
+            marks,
+            table,
+            layer,
+            via,
+            cell,
+        ) {
             return Some(found);
         }
     }

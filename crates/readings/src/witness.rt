@@ -57,7 +57,18 @@ pub(crate) fn write_witness(
     if memory.len() < cells {
         return Err(Refusal::MemorySize);
     }
-    if trial(relations, leaves, enters, rows, marks, table, layer, via, side, cell) {
+    if trial(
+        relations,
+        leaves,
+        enters,
+        rows,
+        marks,
+        table,
+        layer,
+        via,
+        side,
+        cell,
+    ) {
         return Err(Refusal::Exposed { cell, side });
     }
     write_front(memory, table);

@@ -14,10 +14,22 @@ first-exposed-requires c κs = record {
 pub ghost-self-2 : need.ghost-self-2
 ghost-self-2 c = (
   c .args .self .celled,
-  (c .args .self .related, (c .args .self .balanced, (c .args .self .within, (c .args .self .small, (
-    refilled-hidden (c .args .self .marks .now) (c .as-mut-slice .result .now) (c .first-exposed .last .marks) (c .as-mut-slice .ensures .value) (c .as-mut-slice .ensures .len) (c .first-exposed .ensures .kept) _ _ (c .args .self .hidden),
-    tt,
-  ))))),
+  (
+    c .args .self .related,
+    (
+      c .args .self .balanced,
+      (
+        c .args .self .within,
+        (
+          c .args .self .small,
+          (
+            refilled-hidden (c .args .self .marks .now) (c .as-mut-slice .result .now) (c .first-exposed .last .marks) (c .as-mut-slice .ensures .value) (c .as-mut-slice .ensures .len) (c .first-exposed .ensures .kept) _ _ (c .args .self .hidden),
+            tt,
+          ),
+        ),
+      ),
+    ),
+  ),
 )
 
 pub returns : need.returns

@@ -6,7 +6,7 @@ use Prim.Native.Nat.{ℕ, _+_, _≤_, _<_}
 use native.Mathlib.Omega.{arith}
 use Rattle.std.specs.declared.option.Option.{Option}
 use Rattle.std.specs.declared.option.Option.the-variants.{Some, None}
-use Rattle.std.proofs.shelf.Tests.{cases-bool, false≢true, both-ways, and-parts, and-from}
+use Rattle.std.proofs.shelf.Tests.{cases-bool, false≢true, both-ways, and-parts, and-from, cond-true, cond-false, lt-ltb}
 use Rattle.refusals.specs.declared.Side.{Side}
 use Rattle.refusals.specs.declared.Side.the-variants.{Up, Down}
 use Rattle.readings.specs.Readings.{Far}
@@ -103,10 +103,28 @@ audit-right F withheld fit = record {
   passes = (
     λ e c l h side. not-told-hidden F withheld fit c l h side (none-told F withheld fit c (first-none (F .shape .cells) 0 (exposedAt F withheld) e c (omega arith) (omega arith)) side),
     λ safe. none-first (F .shape .cells) 0 (exposedAt F withheld) (λ c _ l. none-picked (told? F withheld c Up) (told? F withheld c Down) c
-    (safe-not-told F withheld fit safe c (omega arith) Up) (safe-not-told F withheld fit safe c (omega arith) Down)),
+        (safe-not-told F withheld fit safe c (omega arith) Up) (safe-not-told F withheld fit safe c (omega arith) Down)),
   );
   names = λ c side e. let w = named F withheld fit c side e in told-exposed F withheld fit c (w .inside) side (w .told);
   first = λ c side e b l h other. let w = named F withheld fit c side e in not-told-hidden F withheld fit b (omega (arith, w .inside)) h other (w .before b l other);
   up-first = λ c e. let w = named F withheld fit c Down e in
       not-told-hidden F withheld fit c (w .inside) (and-parts (sensitive (F .need) c) _ (w .told) .0) Up (w .not-up refl);
 }
+
+-- What the trials of one cell say of it.
+module _ (F : Figures) (withheld : ℕ → Bool) (c : ℕ) where
+  abbrev test : Side → Bool
+  test side = exposed? (F .shape) withheld (F .figure) (F .need c) c side
+
+  told-is : (side : Side) (r : Bool) → 0 < F .need c → r ≡ test side → told? F withheld c side ≡ r
+  told-is side r h e = ap (λ b. b && test side) (lt-ltb 0 (F .need c) h) ∙ sym e
+
+  pub up-exposed : 0 < F .need c → true ≡ test Up → Some (c, Up) ≡ exposedAt F withheld c
+  up-exposed h e = sym (cond-true (told? F withheld c Up) (Some (c, Up)) _ (told-is Up true h e))
+
+  pub down-exposed : 0 < F .need c → false ≡ test Up → true ≡ test Down → Some (c, Down) ≡ exposedAt F withheld c
+  down-exposed h e f =
+      sym (cond-false (told? F withheld c Up) (Some (c, Up)) _ (told-is Up false h e) ∙ cond-true (told? F withheld c Down) (Some (c, Down)) None (told-is Down true h f))
+
+  pub not-exposed : 0 < F .need c → false ≡ test Up → false ≡ test Down → None ≡ exposedAt F withheld c
+  not-exposed h e f = sym (none-picked (told? F withheld c Up) (told? F withheld c Down) c (told-is Up false h e) (told-is Down false h f))

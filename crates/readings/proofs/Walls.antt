@@ -275,9 +275,9 @@ module _ (sh : Shape) (withheld : ℕ → Bool) (v : ℕ → ℕ) (t : ℕ) (ok 
           | inl past ↦ inl (y, record { reading = ry; away = omega arith })
           | inr at ↦ elim (step Up y (y t + 1) ry
               (raise-last sh 1 (sh .leaves t) (sh .leaves t) y (put y t (y t + 1)) t l (carries-none sh 1 (sh .leaves t) y (ry .balanced)) refl (λ e _ i. put-other y t (y t + 1) e i) (put-same y t (y t + 1)))) [
-            | inl z ↦ inl (z .0, record { reading = z .1; away = omega (arith, z .2, w .away) })
-            | inr d ↦ inr (record { y = y; reads = ry; S = d .0; closed = d .1; has = d .2; lacks = d .3; near = omega (arith, w .away) })
-          ]
+                | inl z ↦ inl (z .0, record { reading = z .1; away = omega (arith, z .2, w .away) })
+                | inr d ↦ inr (record { y = y; reads = ry; S = d .0; closed = d .1; has = d .2; lacks = d .3; near = omega (arith, w .away) })
+              ]
         ]
 
     less : (k : ℕ) → k < v t → Far sh withheld v k t Down → Far sh withheld v (suc k) t Down ⊎ Walled (suc k) Down
@@ -289,9 +289,9 @@ module _ (sh : Shape) (withheld : ℕ → Bool) (v : ℕ → ℕ) (t : ℕ) (ok 
           | inr at ↦ elim (step Down y u ry
               (lower-last (turned sh Down) 1 (sh .leaves t) (sh .leaves t) y (put y t u) t l (carries-none (turned sh Down) 1 (sh .leaves t) y (turned-balanced sh Down y (ry .balanced))) refl
               (λ e _ i. sym (put-other y t u e i)) (omega (arith, put-same y t u)))) [
-            | inl z ↦ inl (z .0, record { reading = z .1; away = omega (arith, z .2, w .away) })
-            | inr d ↦ inr (record { y = y; reads = ry; S = d .0; closed = d .1; has = d .2; lacks = d .3; near = omega (arith, w .away) })
-          ]
+                | inl z ↦ inl (z .0, record { reading = z .1; away = omega (arith, z .2, w .away) })
+                | inr d ↦ inr (record { y = y; reads = ry; S = d .0; closed = d .1; has = d .2; lacks = d .3; near = omega (arith, w .away) })
+              ]
         ]
 
     -- step by step, until a reading is far enough or a closed set stops it

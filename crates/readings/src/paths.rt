@@ -11,10 +11,17 @@ ghost use Rattle.readings.specs.Theorems.{Room};
 use refusals::Side;
 
 pub(crate) const WITHHELD: u8 = 1;
+
 pub(crate) const BARRED: u8 = 2;
 
 // The relation that a path of that side comes from to raise the cell, and the one that it then comes to.
-fn ends(relations: usize, leaves: &[usize], enters: &[usize], side: Side, cell: usize) -> (usize, usize)
+fn ends(
+    relations: usize,
+    leaves: &[usize],
+    enters: &[usize],
+    side: Side,
+    cell: usize,
+) -> (usize, usize)
     requires sizes { ⌜ (length (now enters) ≡ length (now leaves)) × (cell < length (now leaves)) ⌝ }
     requires sound { ⌜ Sound (arcs relations (now leaves) (now enters)) ⌝ }
     ensures behind { λ r. ⌜ r .0 ≡ behind (arcs relations (now (leaves .entry)) (now (enters .entry))) side cell ⌝ }
@@ -74,7 +81,17 @@ fn scan(
     ensures inside { λ r. ⌜ found r (λ c. c < length (now (leaves .entry))) ⌝ }
 {
     for cell in from..leaves.len() {
-        if leads(relations, leaves, enters, marks, table, layer, side, amount, cell) {
+        if leads(
+            relations,
+            leaves,
+            enters,
+            marks,
+            table,
+            layer,
+            side,
+            amount,
+            cell,
+        ) {
             return Some(cell);
         }
     }
@@ -82,13 +99,23 @@ fn scan(
 }
 
 // Of the two relations of a cell that leads on, the one that is not reached yet.
-fn far_end(relations: usize, leaves: &[usize], enters: &[usize], layer: &[usize], cell: usize) -> usize
+fn far_end(
+    relations: usize,
+    leaves: &[usize],
+    enters: &[usize],
+    layer: &[usize],
+    cell: usize,
+) -> usize
     requires sizes { ⌜ (length (now enters) ≡ length (now leaves)) × (length (now layer) ≡ relations) × (cell < length (now leaves)) ⌝ }
     requires sound { ⌜ Sound (arcs relations (now leaves) (now enters)) ⌝ }
     ensures end { λ r. ⌜ r ≡ far-end (arcs relations (now (leaves .entry)) (now (enters .entry))) (at (now (layer .entry))) cell ⌝ }
     ensures inside { λ r. ⌜ r < relations ⌝ }
 {
-    if layer[leaves[cell]] < relations { enters[cell] } else { leaves[cell] }
+    if layer[leaves[cell]] < relations {
+        enters[cell]
+    } else {
+        leaves[cell]
+    }
 }
 
 // Searches for a path from `start` to `goal`: goes over the cells from where it found the last one on, and again from the first,
@@ -117,7 +144,17 @@ fn reach(
     let mut count = 1;
     let mut from = 0;
     while layer[goal] >= relations {
-        match scan(relations, leaves, enters, marks, table, layer, side, amount, from) {
+        match scan(
+            relations,
+            leaves,
+            enters,
+            marks,
+            table,
+            layer,
+            side,
+            amount,
+            from,
+        ) {
             Some(cell) => {
                 let next = far_end(relations, leaves, enters, layer, cell);
                 layer[next] = count;
@@ -160,7 +197,19 @@ pub(crate) fn change(
 {
     let start = enters[cell];
     let goal = leaves[cell];
-    if !reach(relations, leaves, enters, marks, table, layer, via, side, amount, start, goal) {
+    if !reach(
+        relations,
+        leaves,
+        enters,
+        marks,
+        table,
+        layer,
+        via,
+        side,
+        amount,
+        start,
+        goal,
+    ) {
         return false;
     }
     let mut r = goal;

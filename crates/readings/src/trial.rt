@@ -27,7 +27,11 @@ impl Drop for Barred<'_> {
         ensures { λ _. ⌜ now (self .exit .0) ≡ set (now (self .entry .marks)) (self .entry .cell) (self .entry .saved) ⌝ }
     {
         self.marks[self.cell] = self.saved;
-        let Barred { marks: _, cell: _, saved: _ } = self;
+        let Barred {
+            marks: _,
+            cell: _,
+            saved: _,
+        } = self;
     }
 }
 
@@ -52,7 +56,7 @@ fn bar(marks: &mut [u8], cell: usize) -> u8
 }
 
 // The need of the cell.
-fn need_of(rows: &[Row], cell: usize) -> u64
+pub(crate) fn need_of(rows: &[Row], cell: usize) -> u64
     requires { ⌜ cell < length (now rows) ⌝ }
     ensures { λ r. ⌜ r ≡ needs (now (rows .entry)) cell ⌝ }
 {
@@ -103,7 +107,18 @@ pub(crate) fn trial(
     let mut left = need;
     let mut amount = need;
     while left > 0 {
-        if change(relations, leaves, enters, guard.view(), table, layer, via, side, amount, cell) {
+        if change(
+            relations,
+            leaves,
+            enters,
+            guard.view(),
+            table,
+            layer,
+            via,
+            side,
+            amount,
+            cell,
+        ) {
             left -= amount;
             if amount > left {
                 amount = left;

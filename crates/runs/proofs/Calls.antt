@@ -1,6 +1,5 @@
 -- Calls that each do their act come by a run.
-use mathlib.Core.Path.{_≡_, refl, sym, _∙_, ap, subst}
-use Rattle.readings.specs.Exposure.{Figures}
+use mathlib.Core.Path.{refl, sym, _∙_, ap, subst}
 use Rattle.runs.specs.Acts.{step, Right}
 use Rattle.runs.specs.Runs.{Calls-run}
 

@@ -1,2 +1,4 @@
 pub mod Acts
 pub mod Runs
+pub mod Pairs
+pub mod Law

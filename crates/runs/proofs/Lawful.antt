@@ -55,11 +55,11 @@ same-side a b c x y e f = cc
 module _ (F : Figures) (W : ℕ → Bool) (ps : List (List ℕ)) where
   -- every reading agrees with the pages
   abbrev Pages-allow : Type 0
-  Pages-allow = (t : ℕ → ℕ) → Reading (F .shape) W (F .figure) t → Fits F t ps
+  Pages-allow = (t : ℕ → ℕ) → Reading (F .shape) W (F .figure) t → Fits t ps
 
   -- whatever agrees with the pages has the true figures of the cells that are not withheld
   abbrev Pages-fix : Type 0
-  Pages-fix = (t : ℕ → ℕ) → Fits F t ps → (c : ℕ) → c < F .shape .cells → W c ≡ false → t c ≡ F .figure c
+  Pages-fix = (t : ℕ → ℕ) → Fits t ps → (c : ℕ) → c < F .shape .cells → W c ≡ false → t c ≡ F .figure c
 
   hidden-shows : Pages-allow → (c : ℕ) (side : Side) → Hidden F W c side → (t : ℕ → ℕ) × Shows F ps side c t
   hidden-shows allow c side far =
@@ -148,6 +148,7 @@ module _ (F : Figures) (ok : Settled F) (h : History) (k : Kept F (standing F h)
     where
       refuses : (r : Refusal) → a ≡ refused r → (line r .number ≡ 11 → ⊥) → Witness-law F h c side a
       refuses r f never = record {
+        each = λ t x. absurd (table-refused a t r x f);
         bears = λ t x. absurd (table-refused a t r x f);
         lacks = λ x. absurd (other-number a r f never x);
       }
@@ -161,11 +162,13 @@ module _ (F : Figures) (ok : Settled F) (h : History) (k : Kept F (standing F h)
       go false true d x e g i f = refuses (NotSensitive c) f (λ q. omega arith)
       go false false true x e g i f = refuses MemorySize f (λ q. omega arith)
       go false false false true e g i f = record {
+        each = λ t x. absurd (table-refused a t (Exposed c (sideOf side)) x f);
         bears = λ t x. absurd (table-refused a t (Exposed c (sideOf side)) x f);
         lacks = λ _. exposed-lacks F (withheld F st) (with-next F h) fix-next c (sideOf side)
             (exposed-near (F .shape) (withheld F st) (F .figure) c (ok .sound) (ok .balanced) (leb-false (F .shape .cells) c e) (F .need c) (sideOf side) i);
       }
       go false false false false e g i f = record {
+        each = λ t x. ap length (sym (same-table a (f .0) t (f .2) x)) ∙ f .1 .each;
         bears = λ t x. subst (λ (u : List ℕ). Shows F (with-next F h) (sideOf side) c (λ y. getD u y 0)) (same-table a (f .0) t (f .2) x)
             (record { balanced = f .1 .reading .balanced; fits = allow-next (λ y. getD (f .0) y 0) (f .1 .reading); far = f .1 .far });
         lacks = λ x. absurd (table-refused a (f .0) (x .0) (f .2) (x .1));

@@ -3,14 +3,14 @@ use mathlib.Core.Path.{_≡_, refl, sym, ap, _∙_}
 use mathlib.Core.Bool.{Bool, true, false, cond}
 use mathlib.Core.List.{List, []}
 use mathlib.Core.Logic.{inl, inr}
-use Prim.Native.Nat.{ℕ, _*_, _^_, _<_}
+use Prim.Native.Nat.{ℕ, _*_, _^_, _≤_, _<_}
 use native.Mathlib.Omega.{arith}
 use lib.Dec.{eqb}
 use lib.ListN.{length}
 use Rattle.std.specs.declared.option.Option.{Option}
 use Rattle.std.specs.declared.option.Option.the-variants.{Some, None}
 use Rattle.std.proofs.shelf.Lists.{append-nil}
-use Rattle.std.proofs.shelf.Tests.{cases-eq, lt-ltb, eq-eqb, ne-eqb, not-from-false, and-from, cond-true, cond-false}
+use Rattle.std.proofs.shelf.Tests.{cases-lt, cases-eq, lt-ltb, eq-eqb, ne-eqb, not-from-false, and-from, cond-true, cond-false}
 use Rattle.page.specs.Page.{page as bytes, spells, fits}
 use Rattle.page.specs.Writing.{lineOver}
 use Rattle.page.specs.Laws.{Printable}
@@ -64,6 +64,9 @@ module _ (F : Figures) (ok : Settled F) where
     pub page-of-spells : (c : ℕ) → c < F .shape .cells → spells (pageOf F st) c ≡ shown F st c
     page-of-spells = page-spells (shown F st) shown-true
 
+    page-of-ends : (c : ℕ) → F .shape .cells ≤ c → spells (pageOf F st) c ≡ None
+    page-of-ends = page-laws .ended (F .shape .cells) (shown F st) (printable (shown F st) shown-true)
+
     -- a cell that is not withheld is shown
     pub not-withheld-bare : (c : ℕ) → c < F .shape .cells → withheld F st c ≡ false → bare F st c ≡ true
     not-withheld-bare c l e = and-from _ _ (lt-ltb c (F .shape .cells) l) (not-from-false _ e)
@@ -71,13 +74,15 @@ module _ (F : Figures) (ok : Settled F) where
     pub bare-spelled : (c : ℕ) → c < F .shape .cells → bare F st c ≡ true → spells (pageOf F st) c ≡ Some (F .figure c)
     bare-spelled c l b = page-of-spells c l ∙ cond-true _ _ _ b
 
-    pub reading-agrees : (t : ℕ → ℕ) → Reading (F .shape) (withheld F st) (F .figure) t → Agrees F t (pageOf F st)
-    reading-agrees t r c x l e =
-        let is = shown-bare c x (sym (page-of-spells c l) ∙ e) in
-        r .true-figures c l (bare-parts F st c (is .0) .1) ∙ sym (is .1)
+    pub reading-agrees : (t : ℕ → ℕ) → Reading (F .shape) (withheld F st) (F .figure) t → Agrees t (pageOf F st)
+    reading-agrees t r c x e =
+        elim (cases-lt c (F .shape .cells)) [
+          | inl l ↦ let is = shown-bare c x (sym (page-of-spells c l) ∙ e) in r .true-figures c l (bare-parts F st c (is .0) .1) ∙ sym (is .1)
+          | inr beyond ↦ absurd (none-some x (sym (page-of-ends c beyond) ∙ e))
+        ]
 
-    pub agrees-true : (t : ℕ → ℕ) → Agrees F t (pageOf F st) → (c : ℕ) → c < F .shape .cells → withheld F st c ≡ false → t c ≡ F .figure c
-    agrees-true t g c l e = g c (F .figure c) l (bare-spelled c l (not-withheld-bare c l e))
+    pub agrees-true : (t : ℕ → ℕ) → Agrees t (pageOf F st) → (c : ℕ) → c < F .shape .cells → withheld F st c ≡ false → t c ≡ F .figure c
+    agrees-true t g c l e = g c (F .figure c) (bare-spelled c l (not-withheld-bare c l e))
 
     -- THE LINE OF c ALONE ALTERED
     module _ (c : ℕ) (l : c < F .shape .cells) where
@@ -109,7 +114,7 @@ module _ (F : Figures) (ok : Settled F) where
             | inr other ↦ elsewhere x other ∙ cond-true _ _ _ (not-withheld-bare x m (sym (besides-other (withheld F st) c x other) ∙ e))
           ]
 
-      pub line-agrees-true : (t : ℕ → ℕ) → Agrees F t (with-line F (pageOf F st) c)
+      pub line-agrees-true : (t : ℕ → ℕ) → Agrees t (with-line F (pageOf F st) c)
           → (x : ℕ) → x < F .shape .cells → besides (withheld F st) c x ≡ false → t x ≡ F .figure x
       line-agrees-true t g x m e =
-          g x (F .figure x) m (ap (λ (p : List ℕ). spells p x) (sym with-line-page) ∙ page-spells shown-too too-true x m ∙ too-shown x m e)
+          g x (F .figure x) (ap (λ (p : List ℕ). spells p x) (sym with-line-page) ∙ page-spells shown-too too-true x m ∙ too-shown x m e)

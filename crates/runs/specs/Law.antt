@@ -53,7 +53,7 @@ module _ (F : Figures) where
   -- Every sensitive cell has its pair. All figures on the pages are true, and they are those of the printed cells.
   pub record Pages-law (h : History) : Type 0 where
     pub paired : Paired F (pages h)
-    pub true-figures : Fits F (F .figure) (pages h)
+    pub true-figures : Fits (F .figure) (pages h)
     pub printed : (c : ℕ) → c < F .shape .cells → (standing F h .printed c ≡ true) ↔ Stands c (pages h)
 
   -- the pages with the one of this standing out too
@@ -90,9 +90,10 @@ module _ (F : Figures) where
         → standing F h .complement c ≡ false → standing F ((seek, a) ∷ h) .complement c ≡ true
         → Gives-away F (with-line (pageOf F (standing F ((seek, a) ∷ h))) c ∷ pages ((seek, a) ∷ h))
 
-  -- A witness is one of the pair for its cell and side, with the page of this standing out too. It is refused with 11 only where there is
-  -- none.
+  -- A witness has a figure for each cell, and is one of the pair for its cell and side, with the page of this standing out too. It is
+  -- refused with 11 only where there is none.
   pub record Witness-law (h : History) (c side : ℕ) (a : Answer) : Type 0 where
+    pub each : (figures : List ℕ) → a ≡ table figures → length figures ≡ F .shape .cells
     pub bears : (figures : List ℕ) → a ≡ table figures → Shows F (with-next h) (sideOf side) c (λ x. getD figures x 0)
     pub lacks : Refused-with 11 a → (t : ℕ → ℕ) → Shows F (with-next h) (sideOf side) c t → ⊥
 

@@ -18,19 +18,19 @@ pub record Settled (F : Figures) : Type 0 where
   pub within : (c : ℕ) → c < F .shape .cells → F .need c ≤ F .figure c
   pub small : (c : ℕ) → c < F .shape .cells → F .figure c < 10 ^ 13
 
+-- the table has every figure that the page spells
+abbrev pub Agrees : (ℕ → ℕ) → List ℕ → Type 0
+Agrees t p = (c x : ℕ) → spells p c ≡ Some x → t c ≡ x
+
+-- the table agrees with each of the pages
+abbrev pub Fits : (ℕ → ℕ) → List (List ℕ) → Type 0
+Fits t [] = Unit {0}
+Fits t (p ∷ ps) = Agrees t p × Fits t ps
+
 module _ (F : Figures) where
   pub record Sensitive (c : ℕ) : Type 0 where
     pub inside : c < F .shape .cells
     pub has-need : 0 < F .need c
-
-  -- the table has every figure that the page spells
-  abbrev pub Agrees : (ℕ → ℕ) → List ℕ → Type 0
-  Agrees t p = (c x : ℕ) → c < F .shape .cells → spells p c ≡ Some x → t c ≡ x
-
-  -- and every figure that any of the pages spells
-  abbrev pub Fits : (ℕ → ℕ) → List (List ℕ) → Type 0
-  Fits t [] = Unit {0}
-  Fits t (p ∷ ps) = Agrees t p × Fits t ps
 
   -- The table balances, agrees with every page, and at c is as far from the true figure as the need asks, on that side.
   pub record Shows (ps : List (List ℕ)) (side : Side) (c : ℕ) (t : ℕ → ℕ) : Type 0 where

@@ -21,7 +21,7 @@ use Rattle.readings.specs.Theorems.{Safe}
 use Rattle.readings.proofs.Audits.{audit-right}
 use Rattle.runs.specs.Acts.{Act, withhold, seek, print, witness, Answer, count, page, Standing, fresh, exposure, withheld, bare, pageOf, searched, badEntry, refusal, accepted, step, unless, WitnessAnswer, Witnesses, Right}
 use Rattle.runs.specs.Runs.{History, standing, Run}
-use Rattle.runs.specs.Pairs.{Settled, Fits}
+use Rattle.runs.specs.Pairs.{Settled, Agrees-all}
 use Rattle.runs.specs.Law.{put, pages, Stands}
 use Rattle.runs.proofs.Hiding.{reading-more, safe-more, safe-all, fit}
 use Rattle.runs.proofs.Search.{unprinted, Printed-bare, bare-parts, bare-still, search-printed, search-apart}
@@ -33,7 +33,7 @@ refused-never r e = let z : _≡_ {A = ℕ} 0 1 = cc in omega arith
 module _ (F : Figures) where
   pub record Kept (st : Standing) (ps : List (List ℕ)) : Type 0 where
     pub apart : Printed-bare F st
-    pub fits : (t : ℕ → ℕ) → Reading (F .shape) (unprinted st) (F .figure) t → Fits t ps
+    pub fits : (t : ℕ → ℕ) → Reading (F .shape) (unprinted st) (F .figure) t → Agrees-all t ps
     pub safe : Safe F (unprinted st)
     pub stands : (c : ℕ) → c < F .shape .cells → (st .printed c ≡ true) ↔ Stands F c ps
 
@@ -71,7 +71,7 @@ module _ (F : Figures) (ok : Settled F) where
           | inr u ↦ not-from-false _ u
         ]
 
-    pub fits-next : (t : ℕ → ℕ) → Reading (F .shape) (withheld F st) (F .figure) t → Fits t (pageOf F st ∷ ps)
+    pub fits-next : (t : ℕ → ℕ) → Reading (F .shape) (withheld F st) (F .figure) t → Agrees-all t (pageOf F st ∷ ps)
     fits-next t r = (
       reading-agrees F ok st t r,
       k .fits t (reading-more (F .shape) (withheld F st) (unprinted st) (F .figure) t withheld-unprinted r),

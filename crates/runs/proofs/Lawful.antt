@@ -22,7 +22,7 @@ use Rattle.readings.proofs.Audits.{audit-right}
 use Rattle.readings.proofs.Walls.{exposed-near}
 use Rattle.runs.specs.Acts.{Act, withhold, seek, print, witness, Answer, refused, page, table, Standing, exposure, withheld, pageOf, searched, step, unless, WitnessAnswer, Witnesses, Right}
 use Rattle.runs.specs.Runs.{History, standing, Run}
-use Rattle.runs.specs.Pairs.{Settled, Fits, Shows, Pair, Gives-away}
+use Rattle.runs.specs.Pairs.{Settled, Agrees-all, Shows, Pair, Gives-away}
 use Rattle.runs.specs.Law.{pages, Refused-with, Is-search, After-search, Pages-law, with-next, Lowest, Print-law, with-line, Search-law, Witness-law, Act-law, Refusal-law, Every-run-is-lawful}
 use Rattle.runs.proofs.Hiding.{Exposes, hidden-parts, parts-hidden, sensitive-test, test-sensitive, fit}
 use Rattle.runs.proofs.Search.{unprinted, search-adds, search-safe, search-needed}
@@ -55,11 +55,11 @@ same-side a b c x y e f = cc
 module _ (F : Figures) (W : ℕ → Bool) (ps : List (List ℕ)) where
   -- every reading agrees with the pages
   abbrev Pages-allow : Type 0
-  Pages-allow = (t : ℕ → ℕ) → Reading (F .shape) W (F .figure) t → Fits t ps
+  Pages-allow = (t : ℕ → ℕ) → Reading (F .shape) W (F .figure) t → Agrees-all t ps
 
   -- whatever agrees with the pages has the true figures of the cells that are not withheld
   abbrev Pages-fix : Type 0
-  Pages-fix = (t : ℕ → ℕ) → Fits t ps → (c : ℕ) → c < F .shape .cells → W c ≡ false → t c ≡ F .figure c
+  Pages-fix = (t : ℕ → ℕ) → Agrees-all t ps → (c : ℕ) → c < F .shape .cells → W c ≡ false → t c ≡ F .figure c
 
   hidden-shows : Pages-allow → (c : ℕ) (side : Side) → Hidden F W c side → (t : ℕ → ℕ) × Shows F ps side c t
   hidden-shows allow c side far =

@@ -16,7 +16,7 @@ use Rattle.page.specs.Writing.{lineOver}
 use Rattle.readings.specs.Exposure.{Figures}
 use Rattle.runs.specs.Acts.{Act, withhold, seek, print, witness, Answer, refused, count, page, table, shown, pageOf, added}
 use Rattle.runs.specs.Runs.{History, standing, Run}
-use Rattle.runs.specs.Pairs.{Settled, Sensitive, Fits, Shows, Pair, Paired, Gives-away}
+use Rattle.runs.specs.Pairs.{Settled, Sensitive, Agrees-all, Shows, Pair, Paired, Gives-away}
 
 abbrev pub put : Answer → List (List ℕ) → List (List ℕ)
 put (refused r) ps = ps
@@ -53,7 +53,7 @@ module _ (F : Figures) where
   -- Every sensitive cell has its pair. All figures on the pages are true, and they are those of the printed cells.
   pub record Pages-law (h : History) : Type 0 where
     pub paired : Paired F (pages h)
-    pub true-figures : Fits (F .figure) (pages h)
+    pub true-figures : Agrees-all (F .figure) (pages h)
     pub printed : (c : ℕ) → c < F .shape .cells → (standing F h .printed c ≡ true) ↔ Stands c (pages h)
 
   -- the pages with the one of this standing out too

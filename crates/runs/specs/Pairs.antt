@@ -23,9 +23,9 @@ abbrev pub Agrees : (ℕ → ℕ) → List ℕ → Type 0
 Agrees t p = (c x : ℕ) → spells p c ≡ Some x → t c ≡ x
 
 -- the table agrees with each of the pages
-abbrev pub Fits : (ℕ → ℕ) → List (List ℕ) → Type 0
-Fits t [] = Unit {0}
-Fits t (p ∷ ps) = Agrees t p × Fits t ps
+abbrev pub Agrees-all : (ℕ → ℕ) → List (List ℕ) → Type 0
+Agrees-all t [] = Unit {0}
+Agrees-all t (p ∷ ps) = Agrees t p × Agrees-all t ps
 
 module _ (F : Figures) where
   pub record Sensitive (c : ℕ) : Type 0 where
@@ -35,7 +35,7 @@ module _ (F : Figures) where
   -- The table balances, agrees with every page, and at c is as far from the true figure as the need asks, on that side.
   pub record Shows (ps : List (List ℕ)) (side : Side) (c : ℕ) (t : ℕ → ℕ) : Type 0 where
     pub balanced : Balanced (F .shape) t
-    pub fits : Fits t ps
+    pub fits : Agrees-all t ps
     pub far : Away F side c t
 
   -- such a table above the true figure, and one below it

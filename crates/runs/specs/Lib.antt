@@ -1,0 +1,5 @@
+pub mod Acts
+pub mod Runs
+pub mod Pairs
+pub mod Law
+pub mod Worked

@@ -2,3 +2,4 @@
 mod chosen_layout;
 mod chosen_rule;
 mod choosing;
+pub mod preparing;

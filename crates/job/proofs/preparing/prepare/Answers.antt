@@ -9,6 +9,7 @@ use Rattle.std.specs.Of.Vec.{vec-items}
 use Rattle.std.proofs.shelf.Results.{err-from-errBy}
 use Rattle.std.proofs.shelf.Tests.{cases-bool, cond-true, cond-false}
 use Rattle.std.specs.declared.option.Option.the-variants.{Some}
+use Rattle.std.specs.declared.result.Result.the-variants.{Ok}
 use Rattle.refusals.specs.declared.Refusal.the-variants.{LayoutTooLarge, OutOfMemory}
 use Rattle.layouts.specs.Admission.{admissible, refusalOf, shapeOf}
 use Rattle.layouts.specs.Shape.{Shape, Same}
@@ -94,4 +95,27 @@ returns c =
     let got = loaded _ b _ (load .answer) in
     let xs = got .0 in
     let net : c .settle .result .network ≡ c .in-Continue-admitted .admitted .network = c .settle .ensures .network ∙ load .same .0 ∙ opened .network in
-    ?
+    let t0 = shapeOf n0 in
+    let t = shapeOf (c .settle .result .network) in
+    let is : t0 ≡ t = ap shapeOf (opened .network ∙ sym net) in
+    let d : deposited t 0 b ≡ Ok xs =
+        ap (λ z. deposited z 0 b) (sym is) ∙ ap (λ ys. deposited t0 (length ys) b) (sym (opened .none)) ∙ got .1 in
+    let kept : held (vec-items (c .load .last .self .memory .records)) ≡ xs =
+        load .held ∙ ap (held-then (deposited t0 (length (held (vec-items (c .open-intake .result .memory .records)))) b)) (opened .none) ∙ got .2 in
+    let meant : meaning-of (c .load .last .self .rule) ≡ meaning-asked (s .rule) =
+        ap meaning-of (load .same .1 ∙ opened .rule) ∙ (λ i ys. rule .1 ys i) in
+    record {
+      settings = s;
+      contributions = xs;
+      holds = record {
+        rest = b;
+        line = c .in-Continue-settings .ensures tt .reads .0;
+        ranges = early-none s _ (lay .0) (rule .0) fits (c .if-input-gt-LONGEST-INPUT .left);
+        same = subst (λ z. Same z t) (lay .1) (subst (λ n. Same (shape-of (c .in-Continue-layout .layout)) (shapeOf n)) (sym net) (adm .1));
+        deposit = d;
+      };
+      rows = c .settle .ensures .rows
+          ∙ ap (λ n. settled-rows (shapeOf n) (meaning-of (c .load .last .self .rule)) (held (vec-items (c .load .last .self .memory .records)))) (sym (c .settle .ensures .network))
+          ∙ ap (λ m. settled-rows t m (held (vec-items (c .load .last .self .memory .records)))) meant
+          ∙ ap (settled-rows t (meaning-asked (s .rule))) kept;
+    }

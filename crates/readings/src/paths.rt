@@ -1,12 +1,12 @@
 // Paths of changes: the search for one, and the changes along it.
-ghost use Prim.Native.Nat.{ℕ, _+_, _<_, _≤_, _^_};
-ghost use lib.ListN.{getD, length};
+ghost use Prim.Native.Nat.{ℕ, _+_, _<_, _^_};
+ghost use lib.ListN.{length};
 ghost use mathlib.Core.Bool.{false};
 ghost use mathlib.Core.Path.{_≡_};
 ghost use Rattle.std.specs.Slices.{found};
 ghost use Rattle.readings.specs.Balance.{Balanced, Sound};
 ghost use Rattle.readings.specs.Exposure.{ahead, behind};
-ghost use Rattle.readings.specs.Paths.{Changed, Explored, Tree, Walked, arcs, at, far-end, leads?, next-cell, turned, withheld-by};
+ghost use Rattle.readings.specs.Paths.{Changed, Explored, arcs, at, far-end, leads?, next-cell, turned, withheld-by};
 ghost use Rattle.readings.specs.Theorems.{Room};
 use refusals::Side;
 

@@ -1,5 +1,4 @@
-use Prim.Native.Nat.{ℕ, _<_}
-use lib.ListN.{length}
+use Prim.Native.Nat.{_<_}
 use Rattle.readings.specs.Paths.{Walked, arcs, at, turned, withheld-by}
 use Rattle.readings.proofs.paths.change.Given as given
 

@@ -3,8 +3,6 @@ use native.Mathlib.Omega.{arith}
 use mathlib.Core.Logic.{_≢_}
 use mathlib.Core.List.{map}
 use mathlib.Core.Path.{_∙_, sym}
-use Prim.Native.Nat.{_<_}
-use lib.ListN.{length}
 use lib.Seq.{getD-set-same, getD-set-other}
 use Rattle.std.proofs.shelf.Lists.{ext-getD, getD-map, length-map}
 use Rattle.readings.proofs.trial.copy_figures.Needs as need

@@ -1,7 +1,7 @@
 use native.Mathlib.Omega.{arith}
 use mathlib.Core.Bool.{false}
 use mathlib.Core.List.{List}
-use mathlib.Core.Path.{_≡_, _∙_, ap, subst}
+use mathlib.Core.Path.{_∙_, ap, subst}
 use Prim.Native.Nat.{ℕ}
 use Rattle.std.proofs.shelf.Tests.{true≢false}
 use Rattle.layouts.specs.Shape.{Shape}

@@ -1,3 +1,4 @@
+-- The first cell that has an answer gives the audit's.
 use mathlib.Core.Path.{_∙_, ap, sym}
 use mathlib.Core.List.{List}
 use Prim.Native.Nat.{ℕ}

@@ -1,3 +1,4 @@
+-- The walk back has come to the relation r, and only the two ends of the path are out of balance.
 use Prim.Native.Nat.{_<_}
 use Rattle.readings.specs.Paths.{Walked, arcs, at, turned, withheld-by}
 use Rattle.readings.proofs.paths.change.Given as given

@@ -1,3 +1,4 @@
+-- A search goes on by the cell that the scan found, and is closed where a whole round finds none.
 use borrow.Author.Count.{below-more}
 use native.Mathlib.Omega.{arith}
 use mathlib.Core.Path.{_≡_, _∙_, subst, sym}

@@ -1,3 +1,4 @@
+-- What is reached so far is numbered in its order; each turn reaches one relation more, or begins a new round.
 use Prim.Native.Nat.{ℕ, _+_, _-_, _*_, _<_, min}
 use mathlib.Core.Path.{_≡_}
 use lib.ListN.{getD}

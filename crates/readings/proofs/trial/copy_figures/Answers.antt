@@ -1,3 +1,4 @@
+-- One figure more is copied.
 use borrow.Author.Count.{below-more}
 use native.Mathlib.Omega.{arith}
 use mathlib.Core.Logic.{_≢_}

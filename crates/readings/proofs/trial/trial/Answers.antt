@@ -1,3 +1,4 @@
+-- The trial ends with the need met, or without a path of the amount 1; the guard puts the mark back either way.
 use native.Mathlib.Omega.{arith}
 use mathlib.Core.Bool.{false}
 use mathlib.Core.List.{List}

@@ -118,6 +118,18 @@ fn far_end(
     }
 }
 
+// Begins a search: nothing but the start is reached.
+fn begin(relations: usize, layer: &mut [usize], start: usize)
+    requires { ⌜ (length (now layer) ≡ relations) × (start < relations) ⌝ }
+    ensures here { λ _. ⌜ at (now (layer .exit)) start ≡ 0 ⌝ }
+    ensures rest { λ _. ⌜ ((r : ℕ) → r < relations → (r ≡ start → ⊥) → at (now (layer .exit)) r ≡ relations) ⌝ }
+{
+    for x in layer.iter_mut() {
+        *x = relations;
+    }
+    layer[start] = 0;
+}
+
 // Searches for a path from `start` to `goal`: goes over the cells from where it found the last one on, and again from the first,
 // until it reaches the goal or finds nothing in a whole round. Says whether the goal is reached.
 fn reach(
@@ -137,10 +149,7 @@ fn reach(
     requires sound { ⌜ Sound (arcs relations (now leaves) (now enters)) ⌝ }
     ensures { λ r. ⌜ Explored (turned (arcs relations (now (leaves .entry)) (now (enters .entry))) side) (withheld-by (now (marks .entry))) (at (now (table .entry))) amount start goal (at (now (layer .exit))) (at (now (via .exit))) r ⌝ }
 {
-    for x in layer.iter_mut() {
-        *x = relations;
-    }
-    layer[start] = 0;
+    begin(relations, layer, start);
     let mut count = 1;
     let mut from = 0;
     while layer[goal] >= relations {

@@ -2,18 +2,17 @@
 use mathlib.Core.Path.{_≡_, refl, sym, _∙_, ap, subst}
 use mathlib.Core.Bool.{Bool, true, false, cond, _&&_}
 use mathlib.Core.Logic.{_⊎_, inl, inr, ⊎-elim}
-use Prim.Native.Nat.{ℕ, _+_, _≤_, _<_}
+use Prim.Native.Nat.{ℕ, _≤_, _<_}
 use native.Mathlib.Omega.{arith}
 use Rattle.std.specs.declared.option.Option.{Option}
 use Rattle.std.specs.declared.option.Option.the-variants.{Some, None}
 use Rattle.std.proofs.shelf.Tests.{cases-bool, false≢true, both-ways, and-parts, and-from, cond-true, cond-false, lt-ltb}
 use Rattle.refusals.specs.declared.Side.{Side}
 use Rattle.refusals.specs.declared.Side.the-variants.{Up, Down}
-use Rattle.readings.specs.Readings.{Far}
-use Rattle.readings.specs.Exposure.{exposed?, Figures, sensitive, told?, exposedAt, first-from, audit}
-use Rattle.readings.specs.Theorems.{Room, Fit, Hidden, Safe, Told, Audited, Audit-right}
+use Rattle.readings.specs.Exposure.{exposed?, Figures, sensitive, told?, exposedAt, audit}
+use Rattle.readings.specs.Theorems.{Room, Fit, Hidden, Safe, Told, Audit-right}
 use Rattle.readings.proofs.Walls.{exposed-near, far-or-exposed}
-use Rattle.readings.proofs.Firsts.{first-none, none-first, first-some, Found-first}
+use Rattle.readings.proofs.Firsts.{first-none, none-first, first-some}
 
 -- What the answer at a cell says of its two tests.
 pub picked-none : (a b : Bool) (c : ℕ) → _≡_ {A = Option (ℕ × Side)} (cond a (Some (c, Up)) (cond b (Some (c, Down)) None)) None → (a ≡ false) × (b ≡ false)

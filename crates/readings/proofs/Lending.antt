@@ -1,8 +1,8 @@
 -- What the engine is lent is fit for an audit.
 use mathlib.Core.Path.{_≡_, refl, sym, _∙_, ap, subst}
-use mathlib.Core.Bool.{Bool, true, false}
-use mathlib.Core.List.{List, []}
-use Prim.Native.Nat.{ℕ, _+_, _≤_, _<_, _^_}
+use mathlib.Core.Bool.{Bool}
+use mathlib.Core.List.{List}
+use Prim.Native.Nat.{ℕ, _≤_, _<_}
 use native.Mathlib.Omega.{arith}
 use lib.ListN.{length, getD}
 use Rattle.std.specs.Changed.{refilled}
@@ -18,12 +18,11 @@ use Rattle.refusals.specs.declared.Side.{Side}
 use Rattle.layouts.specs.declared.memory.Row.{Row}
 use Rattle.layouts.specs.declared.network.Network.{Network}
 use Rattle.layouts.specs.Shape.{Shape}
-use Rattle.layouts.specs.Copied.{copied}
 use Rattle.layouts.specs.Admission.{shapeOf}
 use Rattle.readings.specs.Balance.{Balanced, Sound}
-use Rattle.readings.specs.Readings.{Reading, Witness}
-use Rattle.readings.specs.Exposure.{audit, exposed?, first-from}
-use Rattle.readings.specs.Paths.{arcs, at, withheld-by}
+use Rattle.readings.specs.Readings.{Witness}
+use Rattle.readings.specs.Exposure.{audit, exposed?}
+use Rattle.readings.specs.Paths.{arcs, withheld-by}
 use Rattle.readings.specs.Rows.{figures, looked-at, needs}
 use Rattle.readings.specs.Theorems.{Fit}
 use Rattle.readings.specs.Witnesses.{witness-answer}

@@ -1,26 +1,24 @@
 -- The steps of a search for a path.
-use mathlib.Core.Path.{_≡_, refl, sym, _∙_, ap, subst}
+use mathlib.Core.Path.{_≡_, refl, sym, ap, subst}
 use mathlib.Core.Bool.{Bool, true, false, cond, not, _&&_}
 use mathlib.Core.Logic.{_⊎_, inl, inr, ⊎-elim}
 use mathlib.Core.List.{List}
 use Prim.Native.Nat.{ℕ, _+_, _-_, _≤_, _<_}
 use native.Mathlib.Omega.{arith}
 use lib.Dec.{leb, ltb}
-use lib.ListN.{length, getD, set}
+use lib.ListN.{length, set}
 use lib.Seq.{getD-set-same, getD-set-other}
-use Rattle.std.specs.declared.option.Option.{Option}
 use Rattle.std.specs.declared.option.Option.the-variants.{Some, None}
 use Rattle.std.proofs.shelf.Tests.{cases-eq, cases-bool, false≢true, true≢false, both-ways, lt-ltb, le-ltb, ltb-true, ltb-false, leb-true, le-leb}
 use Rattle.refusals.specs.declared.Side.{Side}
 use Rattle.refusals.specs.declared.Side.the-variants.{Up, Down}
-use Rattle.sums.specs.Sums.{sum-below}
 use Rattle.sums.proofs.SumBelow.{sum-but, sum-but-le, sum-zero, sum-ones}
 use Rattle.layouts.specs.Shape.{Shape}
 use Rattle.readings.specs.Balance.{Sound}
 use Rattle.readings.specs.Exposure.{ahead, behind}
 use Rattle.readings.specs.Paths.{turned, at, reached, leads?, next-cell, far-end, Came, Closed, Explored, Searched}
 use Rattle.readings.proofs.Crossing.{turned-sound}
-use Rattle.readings.proofs.Firsts.{first-none, first-some, Found-first}
+use Rattle.readings.proofs.Firsts.{first-none, first-some}
 
 -- where a relation is not reached, the count can rise
 pub searched-room : (sh : Shape) (pass : ℕ → Bool) (y : ℕ → ℕ) (d start : ℕ) (layer via : ℕ → ℕ) (count q : ℕ)

@@ -11,7 +11,7 @@ use Rattle.sums.specs.Sums.{sum-below}
 use Rattle.sums.proofs.SumBelow.{sum-but}
 use Rattle.layouts.specs.Shape.{Shape}
 use Rattle.readings.specs.Balance.{Balanced, Sound}
-use Rattle.readings.specs.Paths.{Carries, Closed, Same-but}
+use Rattle.readings.specs.Paths.{Carries, Closed}
 use Rattle.readings.proofs.Steps.{carries-all, raise-last, lower-last}
 
 -- P at some number below n, or else Q at each

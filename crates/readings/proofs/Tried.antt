@@ -1,9 +1,9 @@
 -- The steps of a trial.
 use mathlib.Core.Path.{_≡_, refl, sym, _∙_, ap, subst, fun-ext}
-use mathlib.Core.Bool.{Bool, true, false, not, _&&_}
+use mathlib.Core.Bool.{Bool, true, false}
 use mathlib.Core.Logic.{_⊎_, inl, inr, ⊎-elim}
 use mathlib.Core.List.{List}
-use Prim.Native.Nat.{ℕ, _+_, _-_, _≤_, _<_}
+use Prim.Native.Nat.{ℕ, _-_, _≤_, _<_}
 use native.Mathlib.Omega.{arith}
 use lib.Dec.{eqb}
 use lib.ListN.{length, getD, set}
@@ -14,10 +14,9 @@ use Rattle.refusals.specs.declared.Side.{Side}
 use Rattle.refusals.specs.declared.Side.the-variants.{Up, Down}
 use Rattle.layouts.specs.Shape.{Shape}
 use Rattle.readings.specs.Balance.{Balanced, Sound}
-use Rattle.readings.specs.Readings.{Away, Far, Reading, Witness}
+use Rattle.readings.specs.Readings.{Away, Reading, Witness}
 use Rattle.readings.specs.Exposure.{besides, exposed?}
-use Rattle.readings.specs.Paths.{at, turned, withheld-by, Changed, Closed, Moves, Partly, Stuck, Trying}
-use Rattle.readings.specs.Theorems.{Room}
+use Rattle.readings.specs.Paths.{turned, withheld-by, Changed, Closed, Partly, Trying}
 use Rattle.readings.proofs.Walls.{besides-t, besides-other, exposed-near, Near, walled-exposed}
 
 -- The cells that are withheld once t is barred are the withheld ones besides t.
@@ -30,9 +29,6 @@ barred-besides marks barred t l e = fun-ext (λ c. ap (λ (m : List ℕ). withhe
 
     other : (c : ℕ) → (c ≡ t → ⊥) → withheld-by (set marks t 2) c ≡ besides (withheld-by marks) t c
     other c ne = ap (λ n. eqb n 1) (getD-set-other marks t c 2 0 ne) ∙ sym (besides-other (withheld-by marks) t c ne)
-
-pub barred-t : (marks barred : List ℕ) (t : ℕ) → t < length marks → barred ≡ set marks t 2 → withheld-by barred t ≡ false
-barred-t marks barred t l e = ap (λ (f : ℕ → Bool). f t) (barred-besides marks barred t l e) ∙ besides-t (withheld-by marks) t
 
 -- the saved byte, put back over the bar, gives the marks as they were
 pub put-back : (marks barred : List ℕ) (t saved : ℕ) → barred ≡ set marks t 2 → saved ≡ getD marks t 0 → set barred t saved ≡ marks
@@ -52,48 +48,6 @@ module _ (sh : Shape) (side : Side) (pass : ℕ → Bool) (v : ℕ → ℕ) (k t
     at-most = omega arith;
     some = λ h. h;
   }))
-
-  room : (s : Side) (left d m n : ℕ) → d ≤ left → k ≤ m → Partly s k left m n → Room (λ _. n) d t s
-  room Up left d m n h i p = tt
-  room Down left d m n h i p = omega arith
-
-  module _ (left d : ℕ) (y : ℕ → ℕ) (w : Trying sh side pass v k t left d y) where
-    pub trying-room : k ≤ v t → Room y d t side
-    trying-room h = at-side side (room side left d (v t) (y t) (w .at-most) h (w .moved))
-      where
-        at-side : (s : Side) → Room (λ _. y t) d t s → Room y d t s
-        at-side Up r = tt
-        at-side Down r = r
-
-    pub trying-fits : (n : ℕ) → ((c : ℕ) → c < sh .cells → v c + k < n) → (c : ℕ) → c < sh .cells → y c + d < n
-    trying-fits n h c l = omega (arith, h c l, w .near c l, w .at-most)
-
-    moved-more : (s : Side) (m n n′ : ℕ) → d ≤ left → Partly s k left m n → Moves s d n n′ → Partly s k (left - d) m n′
-    moved-more Up m n n′ h p q = omega arith
-    moved-more Down m n n′ h p q = omega arith
-
-    -- one more path
-    pub trying-more : (d′ : ℕ) (z : ℕ → ℕ) → Changed sh side pass t d y z true → d′ ≤ left - d → (0 < left - d → 0 < d′)
-        → Trying sh side pass v k t (left - d) d′ z
-    trying-more d′ z ch few some = record {
-      balanced = ch .balanced;
-      only = λ c l p ne. ch .only c l p ne ∙ w .only c l p ne;
-      moved = moved-more side (v t) (y t) (z t) (w .at-most) (w .moved) (ch .moves refl);
-      near = λ c l. omega (arith, ch .near c l, w .near c l, w .at-most);
-      at-most = few;
-      some = some;
-    }
-
-    -- no path of this amount: a smaller one is tried
-    pub trying-less : (d′ : ℕ) (z : ℕ → ℕ) → Changed sh side pass t d y z false → d′ ≤ d → 0 < d′ → Trying sh side pass v k t left d′ z
-    trying-less d′ z ch few some = record {
-      balanced = ch .balanced;
-      only = λ c l p ne. ch .only c l p ne ∙ w .only c l p ne;
-      moved = subst (Partly side k left (v t)) (sym (ch .stays refl t)) (w .moved);
-      near = λ c l. omega (arith, ch .stays refl c, w .near c l);
-      at-most = omega (arith, w .at-most);
-      some = λ _. some;
-    }
 
 -- What a trial tells of its cell, where it passes the withheld cells besides t.
 module _ (sh : Shape) (side : Side) (withheld pass : ℕ → Bool) (v : ℕ → ℕ) (k t left d : ℕ) (y : ℕ → ℕ) (ok : Sound sh) (b : Balanced sh v) (l : t < sh .cells)

@@ -15,7 +15,7 @@ use Rattle.readings.specs.Balance.{Balanced, Sound}
 use Rattle.readings.specs.Exposure.{ahead, behind}
 use Rattle.readings.specs.Paths.{turned, at, Came, Carries, Changed, Explored, Moves, Same-but, Walked}
 use Rattle.readings.specs.Theorems.{Room}
-use Rattle.readings.proofs.Crossing.{turned-balanced, balanced-turned, turned-sound}
+use Rattle.readings.proofs.Crossing.{balanced-turned}
 use Rattle.readings.proofs.Steps.{carries-none, carries-all, raise-first, lower-first}
 
 module _ (sh : Shape) (pass : ℕ → Bool) (y : ℕ → ℕ) (d : ℕ) (layer : ℕ → ℕ) (goal : ℕ) where

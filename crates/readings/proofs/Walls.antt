@@ -5,7 +5,7 @@ use mathlib.Core.Logic.{_⊎_, inl, inr, ⊎-elim}
 use Prim.Native.Nat.{ℕ, zero, suc, _+_, _-_, _≤_, _<_}
 use native.Mathlib.Omega.{arith}
 use lib.Dec.{eqb, ltb}
-use Rattle.std.proofs.shelf.Tests.{cases-eq, cases-lt, eq-eqb, ne-eqb, eqb-true, false≢true, both-ways, and-parts, and-from, and-left, and-right, not-true, not-from-false, not-from-true, lt-ltb, ltb-true}
+use Rattle.std.proofs.shelf.Tests.{cases-lt, eq-eqb, ne-eqb, false≢true, both-ways, and-parts, and-from, and-left, and-right, not-true, not-from-false, not-from-true, lt-ltb, ltb-true}
 use Rattle.refusals.specs.declared.Side.{Side}
 use Rattle.refusals.specs.declared.Side.the-variants.{Up, Down}
 use Rattle.sums.specs.Sums.{sum-below}
@@ -13,7 +13,7 @@ use Rattle.sums.proofs.SumBelow.{sum-le, sum-but-le, sum-but, sum-add}
 use Rattle.layouts.specs.Shape.{Shape}
 use Rattle.readings.specs.Balance.{Balanced, Sound}
 use Rattle.readings.specs.Readings.{Reading, Far}
-use Rattle.readings.specs.Exposure.{Exposed, behind, ahead, besides, raised-out, lowered-out, any-below, any-set, wall?, exposed?}
+use Rattle.readings.specs.Exposure.{Exposed, behind, ahead, besides, raised-out, lowered-out, any-below, wall?, exposed?}
 use Rattle.readings.specs.Paths.{turned, Carries, Closed}
 use Rattle.readings.specs.Theorems.{Room, Walls-tell, Walls-stay}
 use Rattle.readings.proofs.Crossing.{crossing, turned-balanced, balanced-turned, turned-sound}
@@ -30,9 +30,6 @@ besides-other withheld t c ne = rw (ne-eqb c t ne) (elim (withheld c) as (λ b. 
 
 pub besides-not-t : (withheld : ℕ → Bool) (t c : ℕ) → besides withheld t c ≡ true → c ≡ t → ⊥
 besides-not-t withheld t c h e = both-ways (besides withheld t c) (ap (besides withheld t) e ∙ besides-t withheld t) h
-
-pub besides-withheld : (withheld : ℕ → Bool) (t c : ℕ) → besides withheld t c ≡ true → withheld c ≡ true
-besides-withheld withheld t c h = and-parts (withheld c) (not (eqb c t)) h .0
 
 -- A cell other than t: p that a path may pass it, a that the set has what lies ahead of it, b that it has what lies behind.
 -- Of what may be lowered, a reading z may have any less than v.

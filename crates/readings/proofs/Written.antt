@@ -1,17 +1,16 @@
 -- A table that is written at the front of longer memory.
 use mathlib.Core.Path.{_≡_, refl, sym, _∙_, ap, subst}
-use mathlib.Core.Bool.{Bool, true, false, cond, not, _&&_}
+use mathlib.Core.Bool.{Bool, cond}
 use mathlib.Core.List.{List, _++_}
 use Prim.Native.Nat.{ℕ, _+_, _-_, _≤_, _<_}
 use native.Mathlib.Omega.{arith}
 use lib.Dec.{eqb}
-use lib.ListN.{length, getD, drop}
+use lib.ListN.{length, drop}
 use Rattle.std.proofs.shelf.Lists.{getD-append-left, getD-append-right, getD-drop}
 use Rattle.refusals.specs.declared.Side.{Side}
 use Rattle.sums.proofs.SumBelow.{sum-same}
 use Rattle.layouts.specs.Shape.{Shape}
-use Rattle.readings.specs.Balance.{Balanced}
-use Rattle.readings.specs.Readings.{Away, Reading, Witness}
+use Rattle.readings.specs.Readings.{Away, Witness}
 use Rattle.readings.specs.Paths.{at}
 
 pub front-inside : (memory table written : List ℕ) → written ≡ table ++ drop (length table) memory → (c : ℕ) → c < length table → at written c ≡ at table c

@@ -1,7 +1,6 @@
 -- Exposure: by readings, which say what it means; by walls, a test without hypotheses; and the audit of all sensitive cells.
-use mathlib.Core.Path.{_≡_}
-use mathlib.Core.Bool.{Bool, true, false, cond, not, _&&_, _||_}
-use Prim.Native.Nat.{ℕ, zero, suc, _+_, _≤_, _<_}
+use mathlib.Core.Bool.{Bool, false, cond, not, _&&_, _||_}
+use Prim.Native.Nat.{ℕ, zero, suc}
 use lib.Dec.{eqb, ltb}
 use Rattle.std.specs.declared.option.Option.{Option}
 use Rattle.std.specs.declared.option.Option.the-variants.{Some, None}
@@ -9,7 +8,6 @@ use Rattle.refusals.specs.declared.Side.{Side}
 use Rattle.refusals.specs.declared.Side.the-variants.{Up, Down}
 use Rattle.sums.specs.Sums.{sum-below}
 use Rattle.layouts.specs.Shape.{Shape}
-use Rattle.readings.specs.Balance.{Balanced, Sound}
 use Rattle.readings.specs.Readings.{Far}
 
 -- The cell t is exposed on that side: no reading is k or more away from its figure.

@@ -1,12 +1,12 @@
 // Paths of changes: the search for one, and the changes along it.
-ghost use Prim.Native.Nat.{ℕ, _+_, _<_, _≤_, _^_};
-ghost use lib.ListN.{getD, length};
+ghost use Prim.Native.Nat.{ℕ, _+_, _<_, _^_};
+ghost use lib.ListN.{length};
 ghost use mathlib.Core.Bool.{false};
 ghost use mathlib.Core.Path.{_≡_};
 ghost use Rattle.std.specs.Slices.{found};
 ghost use Rattle.readings.specs.Balance.{Balanced, Sound};
 ghost use Rattle.readings.specs.Exposure.{ahead, behind};
-ghost use Rattle.readings.specs.Paths.{Changed, Explored, Tree, Walked, arcs, at, far-end, leads?, next-cell, turned, withheld-by};
+ghost use Rattle.readings.specs.Paths.{Changed, Explored, arcs, at, far-end, leads?, next-cell, turned, withheld-by};
 ghost use Rattle.readings.specs.Theorems.{Room};
 use refusals::Side;
 
@@ -118,6 +118,18 @@ fn far_end(
     }
 }
 
+// Begins a search: nothing but the start is reached.
+fn begin(relations: usize, layer: &mut [usize], start: usize)
+    requires { ⌜ (length (now layer) ≡ relations) × (start < relations) ⌝ }
+    ensures here { λ _. ⌜ at (now (layer .exit)) start ≡ 0 ⌝ }
+    ensures rest { λ _. ⌜ ((r : ℕ) → r < relations → (r ≡ start → ⊥) → at (now (layer .exit)) r ≡ relations) ⌝ }
+{
+    for x in layer.iter_mut() {
+        *x = relations;
+    }
+    layer[start] = 0;
+}
+
 // Searches for a path from `start` to `goal`: goes over the cells from where it found the last one on, and again from the first,
 // until it reaches the goal or finds nothing in a whole round. Says whether the goal is reached.
 fn reach(
@@ -137,10 +149,7 @@ fn reach(
     requires sound { ⌜ Sound (arcs relations (now leaves) (now enters)) ⌝ }
     ensures { λ r. ⌜ Explored (turned (arcs relations (now (leaves .entry)) (now (enters .entry))) side) (withheld-by (now (marks .entry))) (at (now (table .entry))) amount start goal (at (now (layer .exit))) (at (now (via .exit))) r ⌝ }
 {
-    for x in layer.iter_mut() {
-        *x = relations;
-    }
-    layer[start] = 0;
+    begin(relations, layer, start);
     let mut count = 1;
     let mut from = 0;
     while layer[goal] >= relations {

@@ -1,3 +1,4 @@
+-- Two trials, up before down, say where a cell is exposed.
 use native.Mathlib.Omega.{arith}
 use mathlib.Core.List.{List}
 use mathlib.Core.Path.{_∙_, ap}

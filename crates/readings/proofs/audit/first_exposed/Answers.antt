@@ -1,4 +1,5 @@
-use mathlib.Core.Path.{_≡_, _∙_, ap, sym}
+-- The first cell that has an answer gives the audit's.
+use mathlib.Core.Path.{_∙_, ap, sym}
 use mathlib.Core.List.{List}
 use Prim.Native.Nat.{ℕ}
 use Rattle.readings.specs.Exposure.{Figures, exposedAt}

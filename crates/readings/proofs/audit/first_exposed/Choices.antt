@@ -1,3 +1,4 @@
+-- No cell below the one in hand is exposed, and the marks are as they were.
 use mathlib.Core.Path.{_≡_}
 use Prim.Native.Nat.{_-_}
 use lib.ListN.{length}

@@ -1,3 +1,4 @@
+-- Each cell of the path moves the end of the walk, and the tried cell closes the ring.
 use native.Mathlib.Omega.{arith}
 use mathlib.Core.Path.{refl}
 use lib.ListN.{getD}

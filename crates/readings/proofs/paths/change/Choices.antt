@@ -1,5 +1,5 @@
-use Prim.Native.Nat.{ℕ, _<_}
-use lib.ListN.{length}
+-- The walk back has come to the relation r, and only the two ends of the path are out of balance.
+use Prim.Native.Nat.{_<_}
 use Rattle.readings.specs.Paths.{Walked, arcs, at, turned, withheld-by}
 use Rattle.readings.proofs.paths.change.Given as given
 

@@ -1,39 +1,28 @@
-use borrow.Author.Count.{below-more}
+-- A search goes on by the cell that the scan found, and is closed where a whole round finds none.
 use native.Mathlib.Omega.{arith}
-use mathlib.Core.Path.{_≡_, _∙_, subst, sym}
-use mathlib.Core.Logic.{_≢_}
-use Prim.Native.Nat.{ℕ, _<_}
-use lib.ListN.{length, set, length-set}
-use lib.Seq.{getD-set-same, getD-set-other}
+use mathlib.Core.Path.{_≡_, subst, sym}
+use Prim.Native.Nat.{ℕ}
 use Rattle.std.specs.declared.option.Option.the-variants.{None}
 use Rattle.layouts.specs.Shape.{Shape}
 use Rattle.readings.specs.Paths.{arcs, at, next-cell, withheld-by}
 use Rattle.readings.proofs.Reaching.{searched-start, reached-room, reached-more, explored-found, explored-shut}
 use Rattle.readings.proofs.paths.reach.Needs as need
 
-pub loop-x-again : need.loop-x-again
-loop-x-again c =
-    below-more _ _
-    (λ k h. let ne : k ≢ c .loop-x .x-index = omega arith in rw getD-set-other (c .loop-x .inv k h))
-    (let lt : c .loop-x .x-index < length (c .loop-x .layer) = omega arith in rw getD-set-same)
-
 pub loop-layer-holds : need.loop-layer-holds
-loop-layer-holds c =
-    searched-start _ _ _ _ (c .args .start) _ _ (omega arith) (getD-set-same (c .loop-x .layer) (c .args .start) 0 0 (omega arith))
-    (λ r l ne. getD-set-other (c .loop-x .layer) (c .args .start) r 0 0 ne ∙ c .loop-x .inv r (omega arith))
+loop-layer-holds c = searched-start _ _ _ _ (c .args .start) _ _ (omega arith) (c .begin .ensures .here) (c .begin .ensures .rest)
 
 pub loop-layer-less-in-Some : need.loop-layer-less-in-Some
 loop-layer-less-in-Some c =
     omega (
       arith,
       reached-room (arcs (c .args .relations) (c .args .leaves .now) (c .args .enters .now)) (c .args .side) (withheld-by (c .args .marks .now)) (at (c .args .table .now)) (c .args .amount) (c .args .start) (c .loop-layer .layer) (c .loop-layer .via) (c .loop-layer .count) (c .loop-layer .from) (c .in-Some .cell) (c .far-end-next .result)
-          (c .pre .sound) (omega (arith, length-set (c .loop-x .layer) (c .args .start) 0)) (omega arith) (c .loop-layer .inv) (c .in-Some .ensures tt .first) (c .far-end-next .ensures .end),
+          (c .pre .sound) (omega arith) (omega arith) (c .loop-layer .inv) (c .in-Some .ensures tt .first) (c .far-end-next .ensures .end),
     )
 
 pub loop-layer-again-in-Some : need.loop-layer-again-in-Some
 loop-layer-again-in-Some c =
     reached-more (arcs (c .args .relations) (c .args .leaves .now) (c .args .enters .now)) (c .args .side) (withheld-by (c .args .marks .now)) (at (c .args .table .now)) (c .args .amount) (c .args .start) (c .loop-layer .layer) (c .loop-layer .via) (c .loop-layer .count) (c .loop-layer .from) (c .in-Some .cell) (c .far-end-next .result)
-    (c .pre .sound) (omega (arith, length-set (c .loop-x .layer) (c .args .start) 0)) (omega arith) (c .loop-layer .inv) (c .in-Some .ensures tt .first) (c .far-end-next .ensures .end)
+    (c .pre .sound) (omega arith) (omega arith) (c .loop-layer .inv) (c .in-Some .ensures tt .first) (c .far-end-next .ensures .end)
 
 pub returns-then-from-eq0 : need.returns-then-from-eq0
 returns-then-from-eq0 c =

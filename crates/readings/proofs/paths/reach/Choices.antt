@@ -1,11 +1,7 @@
-use Prim.Native.Nat.{ℕ, _+_, _-_, _*_, _<_, min}
-use mathlib.Core.Path.{_≡_}
-use lib.ListN.{getD}
+-- What is reached so far is numbered in its order; each turn reaches one relation more, or begins a new round.
+use Prim.Native.Nat.{_+_, _-_, _*_, min}
 use Rattle.readings.specs.Paths.{Searched, arcs, at, turned, withheld-by}
 use Rattle.readings.proofs.paths.reach.Given as given
-
-abbrev pub Inv-loop-x : given.InvT-loop-x
-Inv-loop-x l = (k : ℕ) → k < l .x-index → getD (l .layer) k 0 ≡ l .relations
 
 abbrev pub Inv-loop-layer : given.InvT-loop-layer
 Inv-loop-layer l =

@@ -1,5 +1,5 @@
+-- The cell in hand leads on, or the next one is looked at.
 use mathlib.Core.Path.{_∙_, sym}
-use Rattle.std.specs.declared.option.Option.the-variants.{Some, None}
 use Rattle.std.proofs.shelf.Tests.{cond-true, cond-false}
 use Rattle.readings.proofs.Firsts.{first-from-more, first-from-here, first-from-all}
 use Rattle.readings.proofs.paths.scan.Needs as need

@@ -1,3 +1,4 @@
+-- No cell from the first number up to the one in hand leads on.
 use mathlib.Core.Path.{_≡_}
 use Rattle.readings.specs.Paths.{arcs, at, next-cell, withheld-by}
 use Rattle.readings.proofs.paths.scan.Given as given

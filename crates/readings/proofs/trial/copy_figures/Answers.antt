@@ -1,10 +1,9 @@
+-- One figure more is copied.
 use borrow.Author.Count.{below-more}
 use native.Mathlib.Omega.{arith}
 use mathlib.Core.Logic.{_≢_}
 use mathlib.Core.List.{map}
 use mathlib.Core.Path.{_∙_, sym}
-use Prim.Native.Nat.{_<_}
-use lib.ListN.{length}
 use lib.Seq.{getD-set-same, getD-set-other}
 use Rattle.std.proofs.shelf.Lists.{ext-getD, getD-map, length-map}
 use Rattle.readings.proofs.trial.copy_figures.Needs as need

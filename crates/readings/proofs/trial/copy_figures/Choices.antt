@@ -1,3 +1,4 @@
+-- The figures up to the cell in hand are copied.
 use Prim.Native.Nat.{ℕ, _<_}
 use mathlib.Core.Path.{_≡_}
 use lib.ListN.{getD}

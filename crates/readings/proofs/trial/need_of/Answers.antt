@@ -1,3 +1,4 @@
+-- The need of a row is that of its cell.
 use mathlib.Core.Path.{sym}
 use Rattle.std.proofs.shelf.Lists.{getD-map}
 use Rattle.readings.proofs.trial.need_of.Needs as need

@@ -1,7 +1,8 @@
+-- The trial ends with the need met, or without a path of the amount 1; the guard puts the mark back either way.
 use native.Mathlib.Omega.{arith}
 use mathlib.Core.Bool.{false}
 use mathlib.Core.List.{List}
-use mathlib.Core.Path.{_≡_, _∙_, ap, subst}
+use mathlib.Core.Path.{_∙_, ap, subst}
 use Prim.Native.Nat.{ℕ}
 use Rattle.std.proofs.shelf.Tests.{true≢false}
 use Rattle.layouts.specs.Shape.{Shape}

@@ -1,3 +1,4 @@
+-- The table is balanced and has come a part of the way; each turn has less to go, or a smaller amount.
 use Prim.Native.Nat.{_+_}
 use Rattle.readings.specs.Paths.{Trying, arcs, at, withheld-by}
 use Rattle.readings.specs.Rows.{figures, needs}

@@ -1,3 +1,4 @@
+-- The table that the trial came to is the witness, at the front of the memory.
 use native.Mathlib.Omega.{arith}
 use borrow.Author.Needs.{needs}
 use mathlib.Core.Path.{refl}

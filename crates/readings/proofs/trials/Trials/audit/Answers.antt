@@ -1,3 +1,4 @@
+-- What is lent is fit for an audit, and comes back as it was.
 use native.Mathlib.Omega.{arith}
 use mathlib.Core.Path.{refl}
 use Rattle.readings.proofs.Lending.{lent-audit, lent-fit, refilled-hidden, refilled-kept}

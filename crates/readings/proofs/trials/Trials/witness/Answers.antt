@@ -1,3 +1,4 @@
+-- What is lent is fit for a witness, and comes back as it was.
 use native.Mathlib.Omega.{arith}
 use mathlib.Core.Path.{refl}
 use Rattle.readings.proofs.Lending.{lent-answer, lent-fit, lent-witness, refilled-hidden, refilled-kept}

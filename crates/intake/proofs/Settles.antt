@@ -6,19 +6,17 @@ use mathlib.Core.Logic.{⊎-elim}
 use Prim.Native.Nat.{ℕ, zero, suc, _+_, _-_, _*_, _<_, _≤_}
 use native.Mathlib.Omega.{arith}
 use native.Mathlib.Numerals.{add-one}
-use lib.Dec.{ltb}
 use lib.ListN.{length, getD, length-append}
 use Rattle.std.specs.shelf.Lists.{sum}
 use Rattle.std.specs.shelf.Sorted.{Shuffled}
 use Rattle.std.proofs.shelf.Lists.{length-map}
 use Rattle.std.proofs.shelf.Sorted.{length-shuffled, sumBy-shuffled}
-use Rattle.std.proofs.shelf.Tests.{cases-bool, lt-ltb, le-ltb}
+use Rattle.std.proofs.shelf.Tests.{cases-bool}
 use Rattle.layouts.specs.Shape.{Shape}
 use Rattle.layouts.specs.declared.memory.Contribution.{Contribution}
 use Rattle.layouts.specs.declared.memory.Record.{Record}
 use Rattle.layouts.specs.declared.memory.Row.{Row}
 use Rattle.layouts.specs.declared.memory.Mark.{Mark}
-use Rattle.layouts.specs.declared.memory.Mark.the-variants.{Open, Sensitive}
 use Rattle.intake.specs.Contributions.{amounts-under, figure-of, need-of}
 use Rattle.intake.specs.Chains.{held, leaf-list, amount-list, next-list, latest, chain-amounts, chains-from}
 use Rattle.intake.specs.Marks.{first-mark}
@@ -73,17 +71,10 @@ told-whole all told rest e d = sym (e ∙ ap (λ t. told ++ t) d ∙ append-nil 
 
 -- the row, by what was computed
 module _ (s : Shape) (meaning : List ℕ → ℕ) (xs : List Contribution) (c figure need : ℕ) (f : figure ≡ figure-of s xs c) (n : need ≡ need-of s meaning xs c) where
-  pub row-sensitive : 0 < need → record { figure = figure; need = need; mark = Sensitive } ≡ settled-row s meaning xs c
-  row-sensitive h =
-      let t : ltb 0 (need-of s meaning xs c) ≡ true = lt-ltb 0 (need-of s meaning xs c) (omega arith) in
-      let m : Sensitive ≡ cond (ltb 0 (need-of s meaning xs c)) Sensitive Open = rw t in
-      λ i. record { figure = f i; need = n i; mark = m i }
-
-  pub row-open : need ≡ 0 → record { figure = figure; need = need; mark = Open } ≡ settled-row s meaning xs c
-  row-open h =
-      let t : ltb 0 (need-of s meaning xs c) ≡ false = le-ltb 0 (need-of s meaning xs c) (omega arith) in
-      let m : Open ≡ cond (ltb 0 (need-of s meaning xs c)) Sensitive Open = rw t in
-      λ i. record { figure = f i; need = n i; mark = m i }
+  pub row-made : (mark : Mark) → mark ≡ first-mark need → record { figure = figure; need = need; mark = mark } ≡ settled-row s meaning xs c
+  row-made mark m =
+      let is : mark ≡ first-mark (need-of s meaning xs c) = m ∙ ap first-mark n in
+      λ i. record { figure = f i; need = n i; mark = is i }
 
 -- one row more is settled, by a rule that means the same
 pub row-meaning : (s : Shape) (m n : List ℕ → ℕ) (xs : List Contribution) (c : ℕ) → ((ys : List ℕ) → m ys ≡ n ys) → settled-row s m xs c ≡ settled-row s n xs c

@@ -7,6 +7,7 @@ ghost use Rattle.std.specs.Of.Vec.{vec-items, vec-len};
 ghost use Rattle.std.specs.shelf.Lists.{sum};
 ghost use Rattle.layouts.specs.Admission.{shapeOf};
 ghost use Rattle.intake.specs.Chains.{held};
+ghost use Rattle.intake.specs.Marks.{first-mark};
 ghost use Rattle.intake.specs.Settling.{Chained, chain-of, settled-row, settled-rows};
 use crate::held::Intake;
 use crate::settled::Settled;
@@ -38,6 +39,13 @@ fn tell_chain<R: Rule>(rule: &mut R, records: &[Record], heads: &[usize], leaf: 
     sum
 }
 
+// A cell with a need is sensitive, and any other is open.
+fn mark_of(need: u64) -> Mark
+    ensures { λ r. ⌜ r ≡ first-mark need ⌝ }
+{
+    if need > 0 { Mark::Sensitive } else { Mark::Open }
+}
+
 // The row of a cell: its figure and its need over the amounts entered under it.
 fn settle_cell<R: Rule>(rule: &mut R, network: &Network, records: &[Record], heads: &[usize], cell: usize) -> Row
     requires chained { ⌜ Chained (now records) (now heads) ⌝ }
@@ -55,7 +63,7 @@ fn settle_cell<R: Rule>(rule: &mut R, network: &Network, records: &[Record], hea
         }
     }
     let need = rule.need();
-    let mark = if need > 0 { Mark::Sensitive } else { Mark::Open };
+    let mark = mark_of(need);
     Row { figure, need, mark }
 }
 

@@ -16,7 +16,7 @@ use Rattle.layouts.proofs.Kept.{network-cells}
 use Rattle.intake.specs.Contributions.{figure-of, need-of}
 use Rattle.intake.specs.Chains.{held, leaf-list, amount-list, chain-amounts, chains-from}
 use Rattle.intake.specs.Settling.{Chained, chain-of}
-use Rattle.intake.proofs.Settles.{chains-more, chains-all, whole, whole-shuffled, whole-short, whole-sum, told-chain, told-room, told-whole, row-sensitive, row-open}
+use Rattle.intake.proofs.Settles.{chains-more, chains-all, whole, whole-shuffled, whole-short, whole-sum, told-chain, told-room, told-whole, row-made}
 use Rattle.intake.proofs.settling.settle_cell.Needs as need
 use Rattle.intake.proofs.settling.settle_cell.Needs.{then-index, else-index}
 
@@ -79,8 +79,8 @@ loop-leaf-again g c =
              subst (λ r. g .R·Rule .stands r told) (sym (w .rule-is)) (inv .2 .3))))
     ]
 
-pub returns-then-need-gt0 : need.returns-then-need-gt0
-returns-then-need-gt0 g c =
+pub returns : need.returns
+returns g c =
     let n = c .args .network .now in
     let s = shapeOf n in
     let rs = c .args .records .now in
@@ -91,18 +91,4 @@ returns-then-need-gt0 g c =
     let figure = inv .2 .2 ∙ ap sum told ∙ whole-sum s rs hs (c .pre .chained) (c .args .cell) in
     let needed = c .need-need .ensures (inv .2 .0) (inv .2 .3) ∙ same (inv .2 .0) ∙ ap (g .R·Rule .meaning (c .args .rule .now)) told
         ∙ g .R·Rule·met .order (c .args .rule .now) _ _ (whole-shuffled s rs hs (c .pre .chained) (c .args .cell)) in
-    record { row = row-sensitive s (g .R·Rule .meaning (c .args .rule .now)) (held rs) (c .args .cell) _ _ figure needed (c .if-need-gt0 .taken); same = same }
-
-pub returns-else-need-gt0 : need.returns-else-need-gt0
-returns-else-need-gt0 g c =
-    let n = c .args .network .now in
-    let s = shapeOf n in
-    let rs = c .args .records .now in
-    let hs = c .args .heads .now in
-    let inv = c .loop-leaf .inv in
-    let told = told-whole _ (inv .2 .0) _ (inv .2 .1) (chains-all (s .counts (c .args .cell)) (leaf-list (held rs)) (amount-list (held rs)) (length rs) (c .loop-leaf .leaf) (length hs) (c .loop-leaf-test .left)) in
-    let same = λ (xs : List ℕ). inv .1 xs ∙ c .begin .ensures .same xs in
-    let figure = inv .2 .2 ∙ ap sum told ∙ whole-sum s rs hs (c .pre .chained) (c .args .cell) in
-    let needed = c .need-need .ensures (inv .2 .0) (inv .2 .3) ∙ same (inv .2 .0) ∙ ap (g .R·Rule .meaning (c .args .rule .now)) told
-        ∙ g .R·Rule·met .order (c .args .rule .now) _ _ (whole-shuffled s rs hs (c .pre .chained) (c .args .cell)) in
-    record { row = row-open s (g .R·Rule .meaning (c .args .rule .now)) (held rs) (c .args .cell) _ _ figure needed (omega (arith, c .if-need-gt0 .left)); same = same }
+    record { row = row-made s (g .R·Rule .meaning (c .args .rule .now)) (held rs) (c .args .cell) _ _ figure needed _ (c .mark-of-mark .ensures); same = same }

@@ -1,0 +1,4 @@
+pub mod Standing
+pub mod Events
+pub mod Cells
+pub mod Records

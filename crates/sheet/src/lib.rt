@@ -1,0 +1,6 @@
+// The sheet: the rows of a table, and the acts of an office on them.
+mod cell;
+mod events;
+pub mod held;
+mod meeting;
+mod table;

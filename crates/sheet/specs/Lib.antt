@@ -2,3 +2,4 @@ pub mod Standing
 pub mod Events
 pub mod Cells
 pub mod Records
+pub mod Sheets

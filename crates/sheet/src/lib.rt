@@ -2,5 +2,7 @@
 mod cell;
 mod events;
 pub mod held;
+mod inner;
+pub mod making;
 mod meeting;
 mod table;

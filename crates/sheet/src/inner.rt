@@ -4,10 +4,31 @@ ghost use Prim.Native.Nat.{_<_};
 ghost use lib.ListN.{set};
 ghost use Rattle.sheet.specs.Cells.{row-at};
 ghost use Rattle.sheet.specs.Events.{met};
-ghost use Rattle.sheet.specs.Sheets.{figures-of, rows-of};
+ghost use Rattle.runs.specs.Acts.{complements};
+ghost use Rattle.sheet.specs.Sheets.{figures-of, rows-of, stands};
+ghost use Rattle.sheet.specs.Standing.{isComplement, isPrinted};
 use crate::events::Event;
 use crate::held::Sheet;
+use layouts::memory::Mark;
 use layouts::memory::Row;
+
+pub(crate) fn is_complement(mark: Mark) -> bool
+    ensures { λ r. ⌜ r ≡ isComplement mark ⌝ }
+{
+    match mark {
+        Mark::Complement => true,
+        _ => false,
+    }
+}
+
+pub(crate) fn is_printed(mark: Mark) -> bool
+    ensures { λ r. ⌜ r ≡ isPrinted mark ⌝ }
+{
+    match mark {
+        Mark::Printed => true,
+        _ => false,
+    }
+}
 
 impl Sheet {
     pub(crate) fn cells(&self) -> usize
@@ -21,6 +42,19 @@ impl Sheet {
         ensures { λ r. ⌜ r ≡ row-at (rows-of (now (self .entry))) cell ⌝ }
     {
         self.table.look(cell)
+    }
+
+    // How many cells are complements.
+    pub(crate) fn complements(&self) -> usize
+        ensures { λ r. ⌜ r ≡ complements (figures-of (now (self .entry))) (stands (now (self .entry))) ⌝ }
+    {
+        let mut count = 0;
+        for cell in 0..self.cells() {
+            if is_complement(self.row(cell).mark) {
+                count += 1;
+            }
+        }
+        count
     }
 
     // A cell meets an event.

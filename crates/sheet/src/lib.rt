@@ -1,8 +1,12 @@
 // The sheet: the rows of a table, and the acts of an office on them.
 mod cell;
 mod events;
-pub mod held;
+mod held;
 mod inner;
-pub mod making;
+mod looking;
+mod making;
 mod meeting;
 mod table;
+mod withholding;
+
+pub use held::Sheet;

@@ -8,4 +8,6 @@ pub mod Audits
 pub mod Ends
 pub mod Reaching
 pub mod Walking
-pub mod Trials
+pub mod Tried
+pub mod Lending
+pub mod Written

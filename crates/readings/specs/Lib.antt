@@ -5,3 +5,4 @@ pub mod Theorems
 pub mod Worked
 pub mod Paths
 pub mod Rows
+pub mod Witnesses

@@ -52,7 +52,7 @@ fn bar(marks: &mut [u8], cell: usize) -> u8
 }
 
 // The need of the cell.
-fn need_of(rows: &[Row], cell: usize) -> u64
+pub(crate) fn need_of(rows: &[Row], cell: usize) -> u64
     requires { ⌜ cell < length (now rows) ⌝ }
     ensures { λ r. ⌜ r ≡ needs (now (rows .entry)) cell ⌝ }
 {

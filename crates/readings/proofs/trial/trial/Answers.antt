@@ -7,7 +7,7 @@ use Rattle.std.proofs.shelf.Tests.{true≢false}
 use Rattle.layouts.specs.Shape.{Shape}
 use Rattle.readings.specs.Paths.{Changed, arcs, at, withheld-by}
 use Rattle.readings.specs.Rows.{figures, needs}
-use Rattle.readings.proofs.Trials.{barred-besides, put-back, trying-start, tried-exposed, tried-hidden, tried-shown}
+use Rattle.readings.proofs.Tried.{barred-besides, put-back, trying-start, tried-exposed, tried-hidden, tried-shown}
 use Rattle.readings.proofs.trial.trial.Needs as need
 
 pub loop-left-holds : need.loop-left-holds

@@ -7,6 +7,7 @@ mod looking;
 mod making;
 mod meeting;
 mod table;
+mod trying;
 mod withholding;
 
 pub use held::Sheet;

@@ -6,3 +6,5 @@ pub mod Meetings
 pub mod Answering
 pub mod Entries
 pub mod Withheld
+pub mod Halfway
+pub mod Tries

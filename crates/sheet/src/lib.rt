@@ -6,6 +6,7 @@ mod inner;
 mod looking;
 mod making;
 mod meeting;
+mod searching;
 mod table;
 mod trying;
 mod withholding;

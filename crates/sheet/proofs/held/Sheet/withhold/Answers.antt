@@ -22,7 +22,7 @@ returns-in-Break-check-entries c =
     rw (p .1, p .2)
     record
     { answer = sym (ap (λ (o : Option Refusal). answered o n) why)
-    ; acted = acted-refused s (withhold l) _ (sym (ap (λ (o : Option Refusal). unless o (count n)) why))
+    ; acted = acted-refused s s (withhold l) _ (record { same-network = refl; same-rows = refl }) (sym (ap (λ (o : Option Refusal). unless o (count n)) why))
     ; unchanged = λ _. refl
     }
 

@@ -1,0 +1,13 @@
+pub mod Marking
+pub mod Begun
+pub mod Facts
+pub mod Lent
+pub mod Meetings
+pub mod Answering
+pub mod Entries
+pub mod Withheld
+pub mod Halfway
+pub mod Tries
+pub mod Stood
+pub mod Shown
+pub mod Borne

@@ -1,0 +1,7 @@
+pub mod Standing
+pub mod Events
+pub mod Cells
+pub mod Records
+pub mod Sheets
+pub mod Trying
+pub mod Answers

@@ -3,3 +3,4 @@ mod chosen_layout;
 mod chosen_rule;
 mod choosing;
 pub mod preparing;
+pub mod suppressing;

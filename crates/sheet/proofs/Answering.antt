@@ -12,7 +12,8 @@ use Rattle.std.proofs.shelf.Tests.{true≢false, false≢true}
 use Rattle.refusals.specs.declared.Refusal.{Refusal}
 use Rattle.runs.specs.Acts.{Act, Answer, refused, count, page, table, Right}
 use Rattle.sheet.specs.declared.held.Sheet.{Sheet}
-use Rattle.sheet.specs.Sheets.{figures-of, stands, Acted, answered}
+use Rattle.sheet.specs.Calls.{answered}
+use Rattle.sheet.specs.Sheets.{figures-of, stands, Acted}
 use Rattle.sheet.specs.Standing.{standing-of}
 use Rattle.sheet.specs.Trying.{Same-table}
 use Rattle.sheet.proofs.Facts.{same-table-figures}

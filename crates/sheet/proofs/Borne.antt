@@ -33,8 +33,8 @@ use Rattle.readings.specs.Rows.{figures, needs, looked-at}
 use Rattle.readings.specs.Witnesses.{witness-answer}
 use Rattle.runs.specs.Acts.{Standing, withheld, witness, refusal, refused, table, Away, Witnesses, WitnessAnswer, Right, step}
 use Rattle.sheet.specs.declared.held.Sheet.{Sheet}
-use Rattle.sheet.specs.Answers.{tabled}
-use Rattle.sheet.specs.Sheets.{figures-of, stands, rows-of, Acted, answered}
+use Rattle.sheet.specs.Calls.{tabled, answered}
+use Rattle.sheet.specs.Sheets.{figures-of, stands, rows-of, Acted}
 use Rattle.sheet.specs.Standing.{standing-of}
 use Rattle.sheet.specs.Trying.{bytesOf, Same-table}
 use Rattle.sheet.proofs.Facts.{rows-long, same-table-figures}

@@ -1,6 +1,5 @@
 -- Answers and the reasons for them.
 use mathlib.Core.Path.{_≡_, refl, sym, _∙_, ap}
-use mathlib.Core.Bool.{true}
 use mathlib.Core.List.{List}
 use Prim.Native.Nat.{ℕ}
 use native.Mathlib.Omega.{arith}
@@ -13,7 +12,8 @@ use Rattle.std.proofs.shelf.Tests.{true≢false, false≢true}
 use Rattle.refusals.specs.declared.Refusal.{Refusal}
 use Rattle.runs.specs.Acts.{Act, Answer, refused, count, page, table, Right}
 use Rattle.sheet.specs.declared.held.Sheet.{Sheet}
-use Rattle.sheet.specs.Sheets.{figures-of, stands, Acted, answered}
+use Rattle.sheet.specs.Calls.{answered}
+use Rattle.sheet.specs.Sheets.{figures-of, stands, Acted}
 use Rattle.sheet.specs.Standing.{standing-of}
 use Rattle.sheet.specs.Trying.{Same-table}
 use Rattle.sheet.proofs.Facts.{same-table-figures}
@@ -27,11 +27,6 @@ reason None r e = absurd (false≢true (ap isOk e))
 pub no-reason : (o : Option Refusal) → _≡_ {A = Result (Unit {0}) Refusal} (Ok tt) (answered o tt) → o ≡ None
 no-reason (Some s) e = absurd (true≢false (ap isOk e))
 no-reason None e = refl
-
--- an answer that is given has no reason against it
-pub given-no-reason : (o : Option Refusal) (r : Result ℕ Refusal) (n : ℕ) → r ≡ answered o n → isOk r ≡ true → o ≡ None
-given-no-reason (Some e) r n is ok = absurd (true≢false (sym ok ∙ ap isOk is))
-given-no-reason None r n is ok = refl
 
 -- a call that is refused, and leaves the table as it was, has acted
 pub acted-refused : (s t : Sheet) (act : Act) (r : Refusal) → Same-table s t → Right (figures-of s) (stands s) act (refused r) → Acted s act (refused r) t

@@ -28,11 +28,11 @@ use Rattle.intake.specs.Marks.{mark-at}
 use Rattle.runs.specs.Acts.{Standing, withheld, bare, shown, pageOf, print, refusal, exposure, accepted, page, unless}
 use Rattle.sheet.specs.declared.held.Sheet.{Sheet}
 use Rattle.sheet.specs.declared.events.Event.the-variants.{PagePrinted}
-use Rattle.sheet.specs.Answers.{shown-by, accepted-or}
+use Rattle.sheet.specs.Calls.{shown-by, accepted-or, answered}
 use Rattle.sheet.specs.Cells.{goes-with}
 use Rattle.sheet.specs.Events.{next-mark}
 use Rattle.sheet.specs.Standing.{isComplement, isPrinted, standing-of}
-use Rattle.sheet.specs.Sheets.{rows-of, figures-of, stands, Met, Acted, answered}
+use Rattle.sheet.specs.Sheets.{rows-of, figures-of, stands, Met, Acted}
 use Rattle.sheet.specs.Trying.{Same-table}
 use Rattle.sheet.proofs.Answering.{page-never}
 use Rattle.sheet.proofs.Begun.{mark-past}

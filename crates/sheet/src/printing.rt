@@ -4,10 +4,10 @@ ghost use mathlib.Core.Path.{_≡_};
 ghost use Prim.Native.Nat.{ℕ, _*_, _≤_};
 ghost use lib.ListN.{drop, length};
 ghost use Rattle.readings.specs.Exposure.{audit};
-ghost use Rattle.runs.specs.Acts.{pageOf, print, refusal, withheld};
+ghost use Rattle.runs.specs.Acts.{pageOf, print, withheld};
 ghost use Rattle.sheet.specs.declared.events.Event.the-variants.{PagePrinted};
-ghost use Rattle.sheet.specs.Answers.{pageLeft, paged, shown-by};
-ghost use Rattle.sheet.specs.Sheets.{Acted, Met, answered, figures-of, stands};
+ghost use Rattle.sheet.specs.Calls.{answered, page-left, paged, print-answer, refusal-of, shown-by};
+ghost use Rattle.sheet.specs.Sheets.{Acted, Met, figures-of, stands};
 ghost use Rattle.sheet.specs.Trying.{Same-table};
 use crate::events::Event;
 use crate::held::Sheet;
@@ -43,7 +43,7 @@ impl Sheet {
 
     // Whether the page may go out.
     fn check_page(&mut self, memory: usize) -> Result<(), Refusal>
-        ensures answer { λ r. ⌜ r ≡ answered (refusal (figures-of (now (self .entry))) (stands (now (self .entry))) (print memory)) tt ⌝ }
+        ensures answer { λ r. ⌜ r ≡ answered (refusal-of (now (self .entry)) (print memory)) tt ⌝ }
         ensures same { λ _. ⌜ Same-table (now (self .entry)) (now (self .exit)) ⌝ }
     {
         if memory < LINE * self.cells() {
@@ -77,8 +77,8 @@ impl Sheet {
     // Writes the page of this standing to the front of the memory, if nobody is exposed by it, and answers how many bytes it has. Every
     // open cell is printed from then on.
     pub fn print(&mut self, memory: &mut [u8]) -> Result<usize, Refusal>
-        ensures answer { λ r. ⌜ r ≡ answered (refusal (figures-of (now (self .entry))) (stands (now (self .entry))) (print (length (now (memory .entry))))) (19 * figures-of (now (self .entry)) .shape .cells) ⌝ }
-        ensures page { λ _. ⌜ now (memory .exit) ≡ pageLeft (figures-of (now (self .entry))) (stands (now (self .entry))) (now (memory .entry)) ⌝ }
+        ensures answer { λ r. ⌜ r ≡ print-answer (now (self .entry)) (length (now (memory .entry))) ⌝ }
+        ensures page { λ _. ⌜ now (memory .exit) ≡ page-left (now (self .entry)) (now (memory .entry)) ⌝ }
         ensures acted { λ r. ⌜ Acted (now (self .entry)) (print (length (now (memory .entry)))) (paged r (now (memory .exit))) (now (self .exit)) ⌝ }
     {
         self.check_page(memory.len())?;

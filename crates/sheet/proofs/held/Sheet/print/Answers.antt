@@ -10,8 +10,8 @@ use Rattle.std.proofs.shelf.Results.{err-from-errBy}
 use Rattle.refusals.specs.declared.Refusal.{Refusal}
 use Rattle.runs.specs.Acts.{print, refusal, pageOf, page, unless}
 use Rattle.sheet.specs.declared.held.Sheet.{Sheet}
-use Rattle.sheet.specs.Answers.{accepted-or}
-use Rattle.sheet.specs.Sheets.{figures-of, stands, answered}
+use Rattle.sheet.specs.Calls.{accepted-or, answered}
+use Rattle.sheet.specs.Sheets.{figures-of, stands}
 use Rattle.sheet.proofs.Answering.{reason, no-reason, acted-refused}
 use Rattle.sheet.proofs.Shown.{print-page, print-size, print-acted}
 use Rattle.sheet.proofs.held.Sheet.print.Needs as need

@@ -7,7 +7,8 @@ use Rattle.std.proofs.shelf.Results.{err-from-errBy}
 use Rattle.std.proofs.shelf.Tests.{true≢false}
 use Rattle.refusals.specs.declared.Refusal.{Refusal}
 use Rattle.runs.specs.Acts.{withhold, refusal, accepted, complements, count, unless}
-use Rattle.sheet.specs.Sheets.{figures-of, stands, answered}
+use Rattle.sheet.specs.Calls.{answered}
+use Rattle.sheet.specs.Sheets.{figures-of, stands}
 use Rattle.sheet.proofs.Answering.{reason, no-reason, acted-refused}
 use Rattle.sheet.proofs.Withheld.{counts-withheld, acted-withheld}
 use Rattle.sheet.proofs.held.Sheet.withhold.Needs as need

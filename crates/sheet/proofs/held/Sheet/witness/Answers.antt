@@ -1,5 +1,8 @@
+use mathlib.Core.Path.{refl}
 use mathlib.Core.List.{List}
+use Prim.Native.Nat.{ℕ}
 use Rattle.layouts.specs.declared.memory.Row.{Row}
+use Rattle.sheet.proofs.Borne.{witness-answers, witness-acted, witness-beyond}
 use Rattle.sheet.proofs.Lent.{lent-long, lent-balanced, lent-within, lent-small, lent-hidden}
 use Rattle.sheet.proofs.Stood.{stood-hidden}
 use Rattle.sheet.proofs.held.Sheet.witness.Needs as need
@@ -18,4 +21,20 @@ ghost-witness c =
     , tt))))) )
 
 pub returns : need.returns
-returns c = ?
+returns c =
+    let s = c .args .self .now in
+    let t = c .set-bytes .last .self in
+    let rows : List Row = c .as-slice .result .now in
+    let same = c .set-bytes .ensures .same in
+    let bytes = c .set-bytes .ensures .bytes in
+    let lent = c .as-slice .ensures .value in
+    let before : List ℕ = c .args .memory .now in
+    let memory : List ℕ = c .witness .last .memory in
+    record
+    { answer = witness-answers s t t rows (c .args .cell) (c .args .side) (c .of .result) before memory (c .witness .result) same bytes lent (c .of .ensures) (c .witness .ensures .answer)
+    ; acted = witness-acted s t _ rows (c .args .cell) (c .args .side) (c .of .result) before memory (c .witness .result) same bytes lent (c .of .ensures) (c .witness .ensures .answer)
+        (record { same-network = refl; same-rows = refl }) (c .witness .kept .memory) (c .witness .ensures .written)
+    ; beyond = witness-beyond s t t rows (c .args .cell) (c .args .side) (c .of .result) before memory (c .witness .result) same bytes lent (c .of .ensures) (c .witness .ensures .answer)
+        (c .witness .kept .memory) (c .witness .ensures .beyond)
+    ; untouched = c .witness .ensures .untouched
+    }

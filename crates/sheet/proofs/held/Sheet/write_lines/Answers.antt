@@ -10,7 +10,7 @@ use Rattle.page.proofs.Pages.{page-none, line-more}
 use Rattle.readings.specs.Rows.{figures}
 use Rattle.runs.specs.Acts.{shown}
 use Rattle.sheet.specs.declared.held.Sheet.{Sheet}
-use Rattle.sheet.specs.Answers.{shown-by}
+use Rattle.sheet.specs.Calls.{shown-by}
 use Rattle.sheet.specs.Cells.{row-at}
 use Rattle.sheet.specs.Sheets.{figures-of, stands, rows-of}
 use Rattle.sheet.proofs.Marking.{figure-at, mark-of}

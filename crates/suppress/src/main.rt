@@ -9,8 +9,8 @@ use std::io::Write;
 // All of standard input, or one byte more than an input may have.
 fn read_input(rt: &LibcRuntime) -> io::Result<Vec<u8>> {
     let mut input = Vec::new(rt.alloc());
-    let mut buffer = [0u8; 4096];
     for _ in 0..LONGEST_INPUT {
+        let mut buffer = [0u8; 4096];
         let count = rt.stdin().read(&mut buffer)?;
         if count == 0 || input.len() > LONGEST_INPUT {
             break;

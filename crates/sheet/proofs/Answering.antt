@@ -1,5 +1,5 @@
 -- Answers and the reasons for them.
-use mathlib.Core.Path.{_≡_, refl, sym, _∙_, ap}
+use mathlib.Core.Path.{_≡_, refl, ap}
 use mathlib.Core.List.{List}
 use Prim.Native.Nat.{ℕ}
 use native.Mathlib.Omega.{arith}
@@ -10,7 +10,7 @@ use Rattle.std.specs.declared.result.Result.the-variants.{Ok, Err}
 use Rattle.std.specs.Results.{isOk}
 use Rattle.std.proofs.shelf.Tests.{true≢false, false≢true}
 use Rattle.refusals.specs.declared.Refusal.{Refusal}
-use Rattle.runs.specs.Acts.{Act, Answer, refused, count, page, table, Right}
+use Rattle.runs.specs.Acts.{Act, refused, count, page, Right}
 use Rattle.sheet.specs.declared.held.Sheet.{Sheet}
 use Rattle.sheet.specs.Calls.{answered}
 use Rattle.sheet.specs.Sheets.{figures-of, stands, Acted}
@@ -30,12 +30,12 @@ no-reason None e = refl
 
 -- a call that is refused, and leaves the table as it was, has acted
 pub acted-refused : (s t : Sheet) (act : Act) (r : Refusal) → Same-table s t → Right (figures-of s) (stands s) act (refused r) → Acted s act (refused r) t
-acted-refused s t act r same e = record
-    { does = record { right = e; leaves = ap standing-of (same .same-rows) }
-    ; same-network = same .same-network
-    ; same-figures = same-table-figures s t same
-    ; same-rows = λ _ _. same .same-rows
-    }
+acted-refused s t act r same e = record {
+  does = record { right = e; leaves = ap standing-of (same .same-rows) };
+  same-network = same .same-network;
+  same-figures = same-table-figures s t same;
+  same-rows = λ _ _. same .same-rows;
+}
 
 -- what is accepted is not refused
 pub count-never : (n : ℕ) (r : Refusal) → count n ≡ refused r → ⊥

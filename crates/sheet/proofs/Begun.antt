@@ -1,5 +1,5 @@
 -- How a settled table stands: open, or sensitive where the need is above 0.
-use mathlib.Core.Path.{_≡_, refl, sym, _∙_, ap, fun-ext}
+use mathlib.Core.Path.{_≡_, refl, ap, fun-ext}
 use mathlib.Core.Bool.{Bool, true, false, cond, not}
 use mathlib.Core.List.{List, map}
 use mathlib.Core.Logic.{inl, inr}
@@ -13,7 +13,7 @@ use Rattle.layouts.specs.declared.memory.Mark.{Mark}
 use Rattle.layouts.specs.declared.memory.Mark.the-variants.{Open, Sensitive, Complement, Printed, Barred}
 use Rattle.readings.specs.Rows.{needs}
 use Rattle.intake.specs.Marks.{mark-at, first-mark, sameMark}
-use Rattle.runs.specs.Acts.{Standing, fresh}
+use Rattle.runs.specs.Acts.{fresh}
 use Rattle.sheet.specs.Cells.{goes-with}
 use Rattle.sheet.specs.Standing.{isComplement, isPrinted, standing-of}
 
@@ -52,6 +52,7 @@ pub begun-fresh : (rows : List Row) → ((c : ℕ) → c < length rows → sameM
 begun-fresh rows begun = λ i. record { complement = fun-ext (λ c. at c .0) i; printed = fun-ext (λ c. at c .1) i }
   where
     at : (c : ℕ) → (isComplement (mark-at rows c) ≡ false) × (isPrinted (mark-at rows c) ≡ false)
-    at c = elim (cases-lt c (length rows))
-      [ inl l ↦ first-bare (needs rows c) (mark-at rows c) (begun c l)
-      | inr l ↦ (ap isComplement (mark-past rows c l), ap isPrinted (mark-past rows c l)) ]
+    at c = elim (cases-lt c (length rows)) [
+      | inl l ↦ first-bare (needs rows c) (mark-at rows c) (begun c l)
+      | inr l ↦ (ap isComplement (mark-past rows c l), ap isPrinted (mark-past rows c l))
+    ]

@@ -25,13 +25,13 @@ use Rattle.layouts.specs.Admission.{shapeOf}
 use Rattle.layouts.specs.Shape.{Shape}
 use Rattle.layouts.specs.declared.memory.Row.{Row}
 use Rattle.readings.specs.Balance.{Balanced}
-use Rattle.readings.specs.Exposure.{Figures, sensitive, exposed?, told?}
+use Rattle.readings.specs.Exposure.{Figures, sensitive, exposed?}
 use Rattle.readings.specs.Paths.{withheld-by}
 use Rattle.readings.specs.Readings as readings
-use Rattle.readings.specs.Readings.{Reading, Witness}
+use Rattle.readings.specs.Readings.{Witness}
 use Rattle.readings.specs.Rows.{figures, needs, looked-at}
 use Rattle.readings.specs.Witnesses.{witness-answer}
-use Rattle.runs.specs.Acts.{Standing, withheld, witness, refusal, refused, table, Away, Witnesses, WitnessAnswer, Right, step}
+use Rattle.runs.specs.Acts.{Standing, withheld, witness, refusal, Away, Witnesses, WitnessAnswer, step}
 use Rattle.sheet.specs.declared.held.Sheet.{Sheet}
 use Rattle.sheet.specs.Calls.{tabled, answered}
 use Rattle.sheet.specs.Sheets.{figures-of, stands, rows-of, Acted}
@@ -41,9 +41,10 @@ use Rattle.sheet.proofs.Facts.{rows-long, same-table-figures}
 use Rattle.sheet.proofs.Stood.{bytes-stood}
 
 not-below : (c n : ℕ) → not (ltb c n) ≡ leb n c
-not-below c n = elim (cases-lt c n)
-    [ inl l ↦ ap not (lt-ltb c n l) ∙ sym (lt-leb n c l)
-    | inr l ↦ ap not (le-ltb c n l) ∙ sym (le-leb n c l) ]
+not-below c n = elim (cases-lt c n) [
+  | inl l ↦ ap not (lt-ltb c n l) ∙ sym (lt-leb n c l)
+  | inr l ↦ ap not (le-ltb c n l) ∙ sym (le-leb n c l)
+]
 
 -- THE ANSWER
 module _ (F : Figures) (st : Standing) (c side memory : ℕ) where
@@ -55,8 +56,10 @@ module _ (F : Figures) (st : Standing) (c side memory : ℕ) where
     where
       x : Bool → Bool
       x s = s && exposed? (F .shape) (withheld F st) (F .figure) (F .need c) c (sideOf side)
+
       rest : Bool → Bool → Bool → Result ℕ Refusal
       rest s m e = cond (not s) (Err (NotSensitive c)) (cond m (Err MemorySize) (cond e (Err (Exposed c (sideOf side))) (Ok (F .shape .cells))))
+
       go : (b s m e : Bool)
           → cond b (Err (UnknownCell c)) (cond (not s) (Err (NotSensitive c)) (cond m (Err MemorySize) (cond (s && e) (Err (Exposed c (sideOf side))) (Ok (F .shape .cells)))))
           ≡ answered (cond b (Some (UnknownCell c)) (cond (not s) (Some (NotSensitive c)) (cond m (Some MemorySize) (cond e (Some (Exposed c (sideOf side))) None)))) (F .shape .cells)
@@ -72,7 +75,7 @@ module _ (F : Figures) (st : Standing) (c side memory : ℕ) where
     where
       go : (b s m : Bool) → leb (F .shape .cells) c ≡ b → ltb memory (F .shape .cells) ≡ m
           → cond b (Some (UnknownCell c)) (cond s (Some (NotSensitive c)) (cond m (Some MemorySize)
-            (cond (exposed? (F .shape) (withheld F st) (F .figure) (F .need c) c (sideOf side)) (Some (Exposed c (sideOf side))) None))) ≡ None
+          (cond (exposed? (F .shape) (withheld F st) (F .figure) (F .need c) c (sideOf side)) (Some (Exposed c (sideOf side))) None))) ≡ None
           → (c < F .shape .cells) × (F .shape .cells ≤ memory)
       go true s m in-it is f = let z : _≡_ {A = ℕ} 0 1 = cc in absurd (omega arith)
       go false true m in-it is f = let z : _≡_ {A = ℕ} 0 1 = cc in absurd (omega arith)
@@ -97,14 +100,14 @@ module _ (F : Figures) (st : Standing) (c : ℕ) (side : Side) (memory : List �
   front x h = getD-take (F .shape .cells) memory x 0 h
 
   pub front-witnesses : Witnesses F st c side (take (F .shape .cells) memory)
-  front-witnesses = record
-      { each = length-take-le (F .shape .cells) memory room
-      ; reading = record
-          { balanced = balanced-same (F .shape) (λ x. getD memory x 0) (λ x. getD (take (F .shape .cells) memory) x 0) front (w .reading .balanced)
-          ; true-figures = λ x h e. front x h ∙ w .reading .true-figures x h e
-          }
-      ; far = away-same F side c (λ x. getD memory x 0) (λ x. getD (take (F .shape .cells) memory) x 0) (front c l) (w .away)
-      }
+  front-witnesses = record {
+    each = length-take-le (F .shape .cells) memory room;
+    reading = record {
+      balanced = balanced-same (F .shape) (λ x. getD memory x 0) (λ x. getD (take (F .shape .cells) memory) x 0) front (w .reading .balanced);
+      true-figures = λ x h e. front x h ∙ w .reading .true-figures x h e;
+    };
+    far = away-same F side c (λ x. getD memory x 0) (λ x. getD (take (F .shape .cells) memory) x 0) (front c l) (w .away);
+  }
 
 -- THE CALL
 -- the answer is right, whether the witness is refused or not
@@ -141,30 +144,30 @@ module _ (s t after : Sheet) (rows : List Row) (c side : ℕ) (asked : Side) (be
   pub witness-acted : Same-table t after → length memory ≡ length before
       → (isOk r ≡ true → Witness (shapeOf (t .network)) (withheld-by (vec-items (t .marks))) (figures rows) (needs rows c) c asked (λ x. getD memory x 0))
       → Acted s (witness c side (length before)) (tabled r memory) after
-  witness-acted stays long written = record
-      { does = record
-          { right = right-by (refusal F st (witness c side (length before))) (Witnesses F st c (sideOf side)) (F .shape .cells) r memory witness-answers bears
-          ; leaves = ap standing-of (stays .same-rows ∙ same .same-rows) ∙ sym (witness-stays F st c side (length before) r memory)
-          }
-      ; same-network = stays .same-network ∙ same .same-network
-      ; same-figures = same-table-figures t after stays ∙ same-table-figures s t same
-      ; same-rows = λ _ _. stays .same-rows ∙ same .same-rows
-      }
+  witness-acted stays long written = record {
+    does = record {
+      right = right-by (refusal F st (witness c side (length before))) (Witnesses F st c (sideOf side)) (F .shape .cells) r memory witness-answers bears;
+      leaves = ap standing-of (stays .same-rows ∙ same .same-rows) ∙ sym (witness-stays F st c side (length before) r memory);
+    };
+    same-network = stays .same-network ∙ same .same-network;
+    same-figures = same-table-figures t after stays ∙ same-table-figures s t same;
+    same-rows = λ _ _. stays .same-rows ∙ same .same-rows;
+  }
     where
       bears : refusal F st (witness c side (length before)) ≡ None → Witnesses F st c (sideOf side) (take (F .shape .cells) memory)
       bears none =
           let room = witness-room F st c side (length before) none in
           let ok : isOk r ≡ true = ap isOk (witness-answers ∙ ap (λ (o : Option Refusal). answered o (F .shape .cells)) none) in
           front-witnesses F st c (sideOf side) memory (room .0) (omega (arith, long, room .1))
-            (subst (λ (d : Side). Witness (F .shape) (withheld F st) (F .figure) (F .need c) c d (λ x. getD memory x 0)) side-is
-              (subst (λ (w : ℕ → Bool). Witness (F .shape) w (F .figure) (F .need c) c asked (λ x. getD memory x 0)) (bytes-stood s t same bytes)
-                (subst (λ (G : Figures). Witness (G .shape) (withheld-by (vec-items (t .marks))) (G .figure) (G .need c) c asked (λ x. getD memory x 0)) lent-figures (written ok))))
+          (subst (λ (d : Side). Witness (F .shape) (withheld F st) (F .figure) (F .need c) c d (λ x. getD memory x 0)) side-is
+          (subst (λ (w : ℕ → Bool). Witness (F .shape) w (F .figure) (F .need c) c asked (λ x. getD memory x 0)) (bytes-stood s t same bytes)
+          (subst (λ (G : Figures). Witness (G .shape) (withheld-by (vec-items (t .marks))) (G .figure) (G .need c) c asked (λ x. getD memory x 0)) lent-figures (written ok))))
 
   -- nothing beyond the cells is other than it was
   pub witness-beyond : length memory ≡ length before → ((x : ℕ) → length rows ≤ x → getD memory x 0 ≡ getD before x 0)
       → drop (F .shape .cells) memory ≡ drop (F .shape .cells) before
   witness-beyond long rest =
       ext-getD 0 (drop (F .shape .cells) memory) (drop (F .shape .cells) before) (simp length-drop (ap (λ n. n - F .shape .cells) long))
-        (λ i h. getD-drop (F .shape .cells) memory i 0
-          ∙ rest (F .shape .cells + i) (omega (arith, ap length lent, rows-long t, ap (λ (G : Figures). G .shape .cells) (same-table-figures s t same)))
-          ∙ sym (getD-drop (F .shape .cells) before i 0))
+      (λ i h. getD-drop (F .shape .cells) memory i 0
+      ∙ rest (F .shape .cells + i) (omega (arith, ap length lent, rows-long t, ap (λ (G : Figures). G .shape .cells) (same-table-figures s t same)))
+      ∙ sym (getD-drop (F .shape .cells) before i 0))

@@ -1,19 +1,17 @@
 -- One entry after another of a list that is to be withheld.
-use mathlib.Core.Path.{_≡_, refl, sym, _∙_, ap}
+use mathlib.Core.Path.{_≡_, refl, sym, ap}
 use mathlib.Core.List.{List, [], _∷_}
-use mathlib.Core.Bool.{Bool, true, false, cond, _||_}
+use mathlib.Core.Bool.{Bool, true, false, cond}
 use mathlib.Core.Logic.{inl, inr}
-use Prim.Native.Nat.{ℕ, suc, _+_, _<_, _≤_}
+use Prim.Native.Nat.{ℕ, _+_, _<_, _≤_}
 use native.Mathlib.Numerals.{add-one}
 use lib.Dec.{ltb, leb, eqb}
 use lib.ListN.{length, getD, drop}
 use lib.Seq.{drop-cons}
 use Rattle.std.proofs.shelf.Lists.{drop-all}
 use Rattle.std.proofs.shelf.Tests.{le-leb, lt-leb, lt-ltb, le-ltb, leb-false, eqb-true, or-cases, true≢false}
-use Rattle.std.specs.declared.option.Option.{Option}
 use Rattle.std.specs.declared.option.Option.the-variants.{Some, None}
 use Rattle.std.specs.Options.{isSome}
-use Rattle.refusals.specs.declared.Refusal.{Refusal}
 use Rattle.refusals.specs.declared.Refusal.the-variants.{MemorySize, UnknownCell, AlreadyPrinted}
 use Rattle.sums.specs.Sums.{among}
 use Rattle.readings.specs.Exposure.{Figures}
@@ -56,9 +54,10 @@ listed-good F st (x ∷ xs) c e h = go (leb (F .shape .cells) x) (st .printed x)
         → (c < F .shape .cells) × (st .printed c ≡ false)
     go true q is p f rest = absurd (some-never (UnknownCell x) f)
     go false true is p f rest = absurd (some-never (AlreadyPrinted x) f)
-    go false false is p f rest = elim (or-cases (eqb c x) (among c xs) h)
-      [ inl same ↦ rw (eqb-true c x same) (leb-false (F .shape .cells) x is, p)
-      | inr r ↦ rest f r ]
+    go false false is p f rest = elim (or-cases (eqb c x) (among c xs) h) [
+      | inl same ↦ rw (eqb-true c x same) (leb-false (F .shape .cells) x is, p)
+      | inr r ↦ rest f r
+    ]
 
 -- the refusal of a list that is not too long
 pub entries-accepted : (F : Figures) (st : Standing) (l : List ℕ) → refusal F st (withhold l) ≡ None → badEntry F st l ≡ None

@@ -1,13 +1,11 @@
 -- What holds of every sheet, by the number of its cells.
-use mathlib.Core.Path.{_≡_, refl, sym, _∙_, ap}
+use mathlib.Core.Path.{_≡_, sym, _∙_, ap}
 use mathlib.Core.Bool.{true}
 use Prim.Native.Nat.{ℕ, _<_, _≤_}
 use native.Mathlib.Omega.{arith}
 use lib.ListN.{length}
 use Rattle.std.specs.Of.Vec.{vec-items, vec-len}
-use Rattle.layouts.specs.declared.network.Network.{Network}
 use Rattle.layouts.specs.Admission.{shapeOf}
-use Rattle.readings.specs.Exposure.{Figures}
 use Rattle.readings.specs.Rows.{figures, needs}
 use Rattle.intake.specs.Marks.{mark-at}
 use Rattle.sheet.specs.declared.held.Sheet.{Sheet}

@@ -1,10 +1,9 @@
 -- One row gets another mark: what stays, and what holds of the marks then.
 use mathlib.Core.Path.{_≡_, refl, sym, _∙_, ap, subst}
-use mathlib.Core.Bool.{Bool, true, false, not}
+use mathlib.Core.Bool.{true}
 use mathlib.Core.List.{List, map}
 use mathlib.Core.Logic.{_≢_, inl, inr}
 use Prim.Native.Nat.{ℕ, _<_, _≤_}
-use lib.Dec.{ltb}
 use lib.ListN.{length, getD, set, length-set, List·getD-map}
 use Rattle.std.proofs.shelf.Lists.{map-set, set-getD, getD-set-same, getD-set-other}
 use Rattle.std.proofs.shelf.Tests.{le-leb, and-from, cases-eq}
@@ -33,8 +32,8 @@ mark-of rows c = List·getD-map (λ (r : Row). r .mark) rows c blank
 pub cell-at : (rows : List Row) (c : ℕ) → needs rows c ≤ figures rows c → goes-with (needs rows c) (mark-at rows c) ≡ true → isCell (row-at rows c) ≡ true
 cell-at rows c within tied =
     and-from _ _
-      (le-leb _ _ (subst (λ n. n ≤ row-at rows c .figure) (need-at rows c) (subst (λ n. needs rows c ≤ n) (figure-at rows c) within)))
-      (subst (λ m. goes-with (row-at rows c .need) m ≡ true) (mark-of rows c) (subst (λ n. goes-with n (mark-at rows c) ≡ true) (need-at rows c) tied))
+    (le-leb _ _ (subst (λ n. n ≤ row-at rows c .figure) (need-at rows c) (subst (λ n. needs rows c ≤ n) (figure-at rows c) within)))
+    (subst (λ m. goes-with (row-at rows c .need) m ≡ true) (mark-of rows c) (subst (λ n. goes-with n (mark-at rows c) ≡ true) (need-at rows c) tied))
 
 -- a need that goes with a mark goes with the next one
 pub next-goes : (need : ℕ) (m : Mark) (e : Event) → goes-with need m ≡ true → goes-with need (next-mark m e) ≡ true
@@ -103,8 +102,9 @@ module _ (rows after : List Row) (k : ℕ) (e : Event) (is : after ≡ set rows 
   pub met-goes : k < length rows → (c : ℕ) → goes-with (needs rows c) (mark-at rows c) ≡ true → goes-with (needs after c) (mark-at after c) ≡ true
   met-goes l c h =
       ap (λ (f : ℕ → ℕ). goes-with (f c) (mark-at after c)) met-needs
-      ∙ elim (cases-eq c k)
-        [ inl same ↦
+      ∙ elim (cases-eq c k) [
+        | inl same ↦
             ap (goes-with (needs rows c)) (ap (mark-at after) same ∙ met-there l ∙ ap (λ x. next-mark (mark-at rows x) e) (sym same))
             ∙ next-goes (needs rows c) (mark-at rows c) e h
-        | inr ne ↦ ap (goes-with (needs rows c)) (met-elsewhere c ne) ∙ h ]
+        | inr ne ↦ ap (goes-with (needs rows c)) (met-elsewhere c ne) ∙ h
+      ]

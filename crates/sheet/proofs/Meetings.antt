@@ -1,14 +1,12 @@
 -- All cells of a sheet meet an event each, one after another.
 use mathlib.Core.Path.{_≡_, refl, sym, _∙_, ap}
-use mathlib.Core.Bool.{Bool, true, false, cond}
-use mathlib.Core.List.{List}
+use mathlib.Core.Bool.{cond}
 use mathlib.Core.Logic.{_≢_, inl, inr}
 use Prim.Native.Nat.{ℕ, _+_, _<_, _≤_}
 use native.Mathlib.Omega.{arith}
 use lib.Dec.{ltb}
 use lib.ListN.{length, set}
 use Rattle.std.proofs.shelf.Tests.{lt-ltb, le-ltb, cases-eq, cases-lt}
-use Rattle.layouts.specs.declared.memory.Row.{Row}
 use Rattle.layouts.specs.declared.memory.Mark.{Mark}
 use Rattle.readings.specs.Exposure.{Figures}
 use Rattle.intake.specs.Marks.{mark-at}
@@ -31,17 +29,18 @@ pub record Met-below (before : Sheet) (event : ℕ → Event) (i : ℕ) (after :
   pub marks : (c : ℕ) → c < figures-of before .shape .cells → mark-at (rows-of after) c ≡ mark-by before event i c
 
 pub met-none : (s : Sheet) (event : ℕ → Event) → Met-below s event 0 s
-met-none s event = record
-    { same-network = refl
-    ; same-figures = refl
-    ; marks = λ c l. ap (λ b. cond b (next-mark (mark-at (rows-of s) c) (event c)) (mark-at (rows-of s) c)) (sym (le-ltb c 0 (omega arith)))
-    }
+met-none s event = record {
+  same-network = refl;
+  same-figures = refl;
+  marks = λ c l. ap (λ b. cond b (next-mark (mark-at (rows-of s) c) (event c)) (mark-at (rows-of s) c)) (sym (le-ltb c 0 (omega arith)));
+}
 
 -- but at i itself, being below i + 1 is being below i
 pub below-next : (c i : ℕ) → c ≢ i → ltb c (i + 1) ≡ ltb c i
-below-next c i ne = elim (cases-lt c i)
-    [ inl l ↦ lt-ltb c (i + 1) (omega arith) ∙ sym (lt-ltb c i l)
-    | inr l ↦ le-ltb c (i + 1) (omega (arith, ne)) ∙ sym (le-ltb c i l) ]
+below-next c i ne = elim (cases-lt c i) [
+  | inl l ↦ lt-ltb c (i + 1) (omega arith) ∙ sym (lt-ltb c i l)
+  | inr l ↦ le-ltb c (i + 1) (omega (arith, ne)) ∙ sym (le-ltb c i l)
+]
 
 module _ (before mid after : Sheet) (event : ℕ → Event) (i : ℕ) (so-far : Met-below before event i mid) (l : i < figures-of before .shape .cells)
     (net : after .network ≡ mid .network) (is : rows-of after ≡ set (rows-of mid) i (met (row-at (rows-of mid) i) (event i))) where
@@ -52,10 +51,10 @@ module _ (before mid after : Sheet) (event : ℕ → Event) (i : ℕ) (so-far : 
   in-mid = omega (arith, rows-long mid, same-cells)
 
   at : (c : ℕ) → c < figures-of before .shape .cells → mark-at (rows-of after) c ≡ mark-by before event (i + 1) c
-  at c h = elim (cases-eq c i)
-    [ inl same ↦
+  at c h = elim (cases-eq c i) [
+    | inl same ↦
         let here : mark-at (rows-of mid) i ≡ mark-at (rows-of before) i =
-            so-far .marks i l ∙ ap (λ b. cond b (next-mark (mark-at (rows-of before) i) (event i)) (mark-at (rows-of before) i)) (le-ltb i i (omega arith)) in
+        so-far .marks i l ∙ ap (λ b. cond b (next-mark (mark-at (rows-of before) i) (event i)) (mark-at (rows-of before) i)) (le-ltb i i (omega arith)) in
         ap (mark-at (rows-of after)) same
         ∙ met-there (rows-of mid) (rows-of after) i (event i) is in-mid
         ∙ ap (λ m. next-mark m (event i)) here
@@ -64,21 +63,22 @@ module _ (before mid after : Sheet) (event : ℕ → Event) (i : ℕ) (so-far : 
     | inr ne ↦
         met-elsewhere (rows-of mid) (rows-of after) i (event i) is c ne
         ∙ so-far .marks c h
-        ∙ ap (λ b. cond b (next-mark (mark-at (rows-of before) c) (event c)) (mark-at (rows-of before) c)) (sym (below-next c i ne)) ]
+        ∙ ap (λ b. cond b (next-mark (mark-at (rows-of before) c) (event c)) (mark-at (rows-of before) c)) (sym (below-next c i ne))
+  ]
 
   pub met-more : Met-below before event (i + 1) after
-  met-more = record
-      { same-network = net ∙ so-far .same-network
-      ; same-figures =
-          same-figures-by mid after net
-            (met-figures (rows-of mid) (rows-of after) i (event i) is) (met-needs (rows-of mid) (rows-of after) i (event i) is)
-          ∙ so-far .same-figures
-      ; marks = at
-      }
+  met-more = record {
+    same-network = net ∙ so-far .same-network;
+    same-figures =
+        same-figures-by mid after net
+        (met-figures (rows-of mid) (rows-of after) i (event i) is) (met-needs (rows-of mid) (rows-of after) i (event i) is)
+        ∙ so-far .same-figures;
+    marks = at;
+  }
 
 pub met-all : (before after : Sheet) (event : ℕ → Event) (i : ℕ) → figures-of before .shape .cells ≤ i → Met-below before event i after → Met before event after
-met-all before after event i l m = record
-    { same-network = m .same-network
-    ; same-figures = m .same-figures
-    ; marks = λ c h. m .marks c h ∙ ap (λ b. cond b (next-mark (mark-at (rows-of before) c) (event c)) (mark-at (rows-of before) c)) (lt-ltb c i (omega arith))
-    }
+met-all before after event i l m = record {
+  same-network = m .same-network;
+  same-figures = m .same-figures;
+  marks = λ c h. m .marks c h ∙ ap (λ b. cond b (next-mark (mark-at (rows-of before) c) (event c)) (mark-at (rows-of before) c)) (lt-ltb c i (omega arith));
+}

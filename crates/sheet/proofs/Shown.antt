@@ -1,34 +1,30 @@
 -- The page of a sheet, and how the sheet stands once it is out.
-use mathlib.Core.Path.{_≡_, refl, sym, _∙_, ap, subst, fun-ext}
+use mathlib.Core.Path.{_≡_, refl, sym, _∙_, ap, fun-ext}
 use mathlib.Core.Bool.{Bool, true, false, cond, not, _&&_, _||_}
 use mathlib.Core.List.{List, _++_}
 use mathlib.Core.Logic.{inl, inr}
 use Prim.Native.Nat.{ℕ, _+_, _*_, _^_, _<_, _≤_}
 use native.Mathlib.Omega.{arith}
-use lib.Dec.{ltb, lit<}
+use lib.Dec.{ltb}
 use lib.ListN.{length, take, drop}
 use Rattle.std.specs.declared.option.Option.{Option}
 use Rattle.std.specs.declared.option.Option.the-variants.{Some, None}
-use Rattle.std.specs.declared.result.Result.{Result}
-use Rattle.std.specs.declared.result.Result.the-variants.{Ok, Err}
 use Rattle.std.proofs.shelf.Lists.{take-at}
-use Rattle.std.proofs.shelf.Tests.{cases-lt, lt-ltb, le-ltb, ltb-false, not-true, false≢true, true≢false}
-use Rattle.refusals.specs.declared.Side.{Side}
+use Rattle.std.proofs.shelf.Tests.{cases-lt, lt-ltb, le-ltb, ltb-false, not-true, false≢true}
 use Rattle.refusals.specs.declared.Refusal.{Refusal}
-use Rattle.refusals.specs.declared.Refusal.the-variants.{MemorySize, Exposed}
-use Rattle.layouts.specs.declared.memory.Row.{Row}
+use Rattle.refusals.specs.declared.Refusal.the-variants.{MemorySize}
 use Rattle.layouts.specs.declared.memory.Mark.{Mark}
 use Rattle.layouts.specs.declared.memory.Mark.the-variants.{Open, Sensitive, Complement, Printed, Barred}
 use Rattle.page.specs.Page.{fits}
 use Rattle.page.specs.Laws.{Printable}
-use Rattle.page.proofs.Pages.{fits-below, length-page}
+use Rattle.page.proofs.Pages.{length-page}
 use Rattle.readings.specs.Exposure.{Figures, audit}
 use Rattle.readings.specs.Rows.{figures, needs}
 use Rattle.intake.specs.Marks.{mark-at}
 use Rattle.runs.specs.Acts.{Standing, withheld, bare, shown, pageOf, print, refusal, exposure, accepted, page, unless}
 use Rattle.sheet.specs.declared.held.Sheet.{Sheet}
 use Rattle.sheet.specs.declared.events.Event.the-variants.{PagePrinted}
-use Rattle.sheet.specs.Calls.{shown-by, accepted-or, answered}
+use Rattle.sheet.specs.Calls.{shown-by}
 use Rattle.sheet.specs.Cells.{goes-with}
 use Rattle.sheet.specs.Events.{next-mark}
 use Rattle.sheet.specs.Standing.{isComplement, isPrinted, standing-of}
@@ -52,10 +48,10 @@ shown-at s c l =
     ∙ ap (λ b. cond (b && not (withheld (figures-of s) (stands s) c)) (Some (figures (rows-of s) c)) None) (sym (lt-ltb c (figures-of s .shape .cells) l))
 
 pub sheet-printable : (s : Sheet) → Printable (figures-of s .shape .cells) (shown (figures-of s) (stands s))
-sheet-printable s = record
-    { few = omega (arith, cells-few s)
-    ; fit = λ c l. fit (bare (figures-of s) (stands s) c) (figures (rows-of s) c) (small-at s c l)
-    }
+sheet-printable s = record {
+  few = omega (arith, cells-few s);
+  fit = λ c l. fit (bare (figures-of s) (stands s) c) (figures (rows-of s) c) (small-at s c l);
+}
   where
     fit : (b : Bool) (v : ℕ) → v ≤ 2048000000000 → fits (cond b (Some v) None) ≡ true
     fit true v h = lt-ltb v (10 ^ 13) (omega arith)
@@ -100,20 +96,22 @@ module _ (before after : Sheet) (memory : ℕ) (met : Met before (λ _. PagePrin
   past c h = (mark-past (rows-of after) c (omega (arith, rows-long after, same-cells)), mark-past (rows-of before) c (omega (arith, rows-long before)))
 
   printed-at : (c : ℕ) → isPrinted (mark-at (rows-of after) c) ≡ (isPrinted (mark-at (rows-of before) c) || bare (figures-of before) (stands before) c)
-  printed-at c = elim (cases-lt c (figures-of before .shape .cells))
-    [ inl h ↦
+  printed-at c = elim (cases-lt c (figures-of before .shape .cells)) [
+    | inl h ↦
         ap isPrinted (met .marks c h)
         ∙ printed-mark (needs (rows-of before) c) (mark-at (rows-of before) c) (tied-at before c h)
         ∙ ap (λ b. isPrinted (mark-at (rows-of before) c) || (b && not (withheld (figures-of before) (stands before) c))) (sym (lt-ltb c (figures-of before .shape .cells) h))
     | inr h ↦
         ap isPrinted (past c h .0)
         ∙ sym (ap (λ b. isPrinted (mark-at (rows-of before) c) || (b && not (withheld (figures-of before) (stands before) c))) (le-ltb c (figures-of before .shape .cells) h)
-          ∙ ap (λ m. isPrinted m || false) (past c h .1)) ]
+        ∙ ap (λ m. isPrinted m || false) (past c h .1))
+  ]
 
   complement-at : (c : ℕ) → isComplement (mark-at (rows-of after) c) ≡ isComplement (mark-at (rows-of before) c)
-  complement-at c = elim (cases-lt c (figures-of before .shape .cells))
-    [ inl h ↦ ap isComplement (met .marks c h) ∙ page-complement (mark-at (rows-of before) c)
-    | inr h ↦ ap isComplement (past c h .0) ∙ sym (ap isComplement (past c h .1)) ]
+  complement-at c = elim (cases-lt c (figures-of before .shape .cells)) [
+    | inl h ↦ ap isComplement (met .marks c h) ∙ page-complement (mark-at (rows-of before) c)
+    | inr h ↦ ap isComplement (past c h .0) ∙ sym (ap isComplement (past c h .1))
+  ]
 
   pub stands-printed : stands after ≡ accepted (figures-of before) (stands before) (print memory)
   stands-printed = λ i. record { complement = fun-ext complement-at i; printed = fun-ext printed-at i }
@@ -139,17 +137,17 @@ module _ (s t after : Sheet) (same : Same-table s t) (before memory : List ℕ)
   print-size n e = e ∙ ap (λ (F : Figures). 19 * F .shape .cells) (met .same-figures ∙ figures-same)
 
   pub print-acted : (n : ℕ) → n ≡ 19 * figures-of s .shape .cells → Acted s (print (length before)) (page (take n memory)) after
-  print-acted n e = record
-      { does = record
-          { right =
-              ap page (ap (λ (xs : List ℕ). take n xs) print-page ∙ take-at (pageOf (figures-of s) (stands s)) _ n (length-page (figures-of s .shape .cells) (shown (figures-of s) (stands s)) (sheet-printable s) ∙ sym e))
-              ∙ ap (λ (o : Option Refusal). unless o (page (pageOf (figures-of s) (stands s)))) (sym good)
-          ; leaves =
-              stands-printed t after (length before) met
-              ∙ ap (λ (F : Figures). accepted F (stands t) (print (length before))) figures-same
-              ∙ ap (λ (st : Standing). accepted (figures-of s) st (print (length before))) stands-same
-          }
-      ; same-network = met .same-network ∙ same .same-network
-      ; same-figures = met .same-figures ∙ figures-same
-      ; same-rows = λ r f. absurd (page-never (take n memory) r f)
-      }
+  print-acted n e = record {
+    does = record {
+      right =
+          ap page (ap (λ (xs : List ℕ). take n xs) print-page ∙ take-at (pageOf (figures-of s) (stands s)) _ n (length-page (figures-of s .shape .cells) (shown (figures-of s) (stands s)) (sheet-printable s) ∙ sym e))
+          ∙ ap (λ (o : Option Refusal). unless o (page (pageOf (figures-of s) (stands s)))) (sym good);
+      leaves =
+          stands-printed t after (length before) met
+          ∙ ap (λ (F : Figures). accepted F (stands t) (print (length before))) figures-same
+          ∙ ap (λ (st : Standing). accepted (figures-of s) st (print (length before))) stands-same;
+    };
+    same-network = met .same-network ∙ same .same-network;
+    same-figures = met .same-figures ∙ figures-same;
+    same-rows = λ r f. absurd (page-never (take n memory) r f);
+  }

@@ -1,16 +1,14 @@
 -- The mark bytes of a sheet as it stands, and its audit.
-use mathlib.Core.Path.{_≡_, refl, sym, _∙_, ap, subst, fun-ext}
-use mathlib.Core.Bool.{Bool, true, false}
+use mathlib.Core.Path.{_≡_, sym, _∙_, ap, fun-ext}
 use mathlib.Core.List.{List}
-use Prim.Native.Nat.{ℕ, _<_, _≤_}
+use Prim.Native.Nat.{ℕ}
 use native.Mathlib.Omega.{arith}
-use lib.Dec.{ltb, eqb}
-use lib.ListN.{length, getD}
+use lib.Dec.{ltb}
+use lib.ListN.{getD}
 use Rattle.std.specs.Of.Vec.{vec-items}
 use Rattle.std.specs.declared.option.Option.{Option}
 use Rattle.std.proofs.shelf.Tests.{eqb-true, or-left, lt-ltb, le-ltb}
 use Rattle.refusals.specs.declared.Side.{Side}
-use Rattle.layouts.specs.declared.memory.Row.{Row}
 use Rattle.readings.specs.Exposure.{Figures, audit}
 use Rattle.readings.specs.Paths.{withheld-by}
 use Rattle.readings.specs.Rows.{needs}
@@ -36,7 +34,7 @@ module _ (s t : Sheet) (same : Same-table s t) (bytes : vec-items (t .marks) ≡
   pub stood-hidden : Hidden t
   stood-hidden c l n =
       eqb-true (getD (vec-items (t .marks)) c 0) 1
-        (stood c ∙ or-left (ltb 0 (figures-of s .need c)) _ (ap (λ (G : Figures). ltb 0 (G .need c)) (sym (same-table-figures s t same)) ∙ lt-ltb 0 (needs (rows-of t) c) n))
+      (stood c ∙ or-left (ltb 0 (figures-of s .need c)) _ (ap (λ (G : Figures). ltb 0 (G .need c)) (sym (same-table-figures s t same)) ∙ lt-ltb 0 (needs (rows-of t) c) n))
 
   pub audit-stood : (o : Option (ℕ × Side)) → o ≡ audit (figures-of t) (withheld-by (vec-items (t .marks))) → o ≡ audit (figures-of s) (withheld (figures-of s) (stands s))
   audit-stood o e =

@@ -1,42 +1,40 @@
 -- The search, one cell after another from the highest down.
 use mathlib.Core.Path.{_≡_, refl, sym, _∙_, ap, subst, fun-ext}
-use mathlib.Core.Bool.{Bool, true, false, cond, not, _&&_, _||_}
+use mathlib.Core.Bool.{Bool, true, false, cond, not, _&&_}
 use mathlib.Core.List.{List}
-use mathlib.Core.Logic.{_≢_, inl, inr}
-use Prim.Native.Nat.{ℕ, zero, suc, _+_, _<_, _≤_}
+use mathlib.Core.Logic.{_≢_}
+use Prim.Native.Nat.{ℕ, _+_, _<_, _≤_}
 use native.Mathlib.Omega.{arith}
 use native.Mathlib.Numerals.{add-one}
-use lib.Dec.{ltb, eqb}
+use lib.Dec.{ltb}
 use lib.ListN.{length, getD, set}
-use Rattle.std.specs.Of.Vec.{vec-items, vec-len}
+use Rattle.std.specs.Of.Vec.{vec-items}
 use Rattle.std.specs.Options.{isSome}
 use Rattle.std.specs.declared.option.Option.{Option}
-use Rattle.std.specs.declared.option.Option.the-variants.{Some, None}
-use Rattle.std.proofs.shelf.Tests.{cases-eq, eqb-true, or-left, lt-ltb, true≢false, false≢true}
+use Rattle.std.proofs.shelf.Tests.{eqb-true, or-left, lt-ltb}
 use Rattle.refusals.specs.declared.Side.{Side}
 use Rattle.layouts.specs.Blank.{isOpen}
 use Rattle.layouts.specs.declared.memory.Row.{Row}
-use Rattle.layouts.specs.declared.memory.Mark.{Mark}
 use Rattle.layouts.specs.declared.memory.Mark.the-variants.{Open, Complement}
-use Rattle.sums.specs.Sums.{sum-below, count-below}
+use Rattle.sums.specs.Sums.{count-below}
 use Rattle.sums.proofs.SumBelow.{sum-but, sum-none, count-le}
 use Rattle.readings.specs.Exposure.{Figures, audit}
 use Rattle.readings.specs.Paths.{withheld-by}
 use Rattle.readings.specs.Rows.{figures, needs}
 use Rattle.intake.specs.Marks.{mark-at}
-use Rattle.runs.specs.Acts.{Standing, withheld, newly, closed, opened, reopened, reopen, searched, added, seek, count, refused}
+use Rattle.runs.specs.Acts.{Standing, withheld, newly, opened, reopen, searched, added, seek, count}
 use Rattle.sheet.specs.declared.held.Sheet.{Sheet}
 use Rattle.sheet.specs.declared.events.Event.the-variants.{Added}
-use Rattle.sheet.specs.Cells.{goes-with, row-at}
+use Rattle.sheet.specs.Cells.{row-at}
 use Rattle.sheet.specs.Events.{next-mark, met}
 use Rattle.sheet.specs.Standing.{isComplement, standing-of}
 use Rattle.sheet.specs.Sheets.{rows-of, figures-of, stands, Acted}
 use Rattle.sheet.specs.Trying.{bytesOf, Same-table, Tried}
 use Rattle.sheet.proofs.Answering.{count-never}
 use Rattle.sheet.proofs.Facts.{rows-long, marks-long, cells-few, tied-at, same-figures-by, same-table-figures}
-use Rattle.sheet.proofs.Halfway.{half, open-is, open-needless, new-open, half-closed, half-none, bytes-half, half-old, half-opened, half-added, bytes-opened, bytes-back}
+use Rattle.sheet.proofs.Halfway.{half, open-needless, new-open, half-closed, half-none, bytes-half, half-old, half-opened, half-added, bytes-opened, bytes-back}
 use Rattle.sheet.proofs.Lent.{Hidden}
-use Rattle.sheet.proofs.Marking.{mark-of, met-figures, met-needs, met-there, met-elsewhere}
+use Rattle.sheet.proofs.Marking.{met-figures, met-needs, met-there, met-elsewhere}
 
 -- ONE CELL THAT IS TRIED
 -- what is asked before a cell is shown
@@ -58,22 +56,22 @@ module _ (s t : Sheet) (k : ℕ) (same : Same-table s t) (byte : vec-items (t .m
         ∙ ap (λ (xs : List ℕ). isSome (audit (figures-of s) (withheld-by xs))) byte
 
     pub tried-opened : false ≡ isSome o → Tried s k false u
-    tried-opened e = record
-        { same-network = stays .same-network ∙ same .same-network
-        ; finds = found false e
-        ; bytes = kept ∙ byte
-        ; rows = stays .same-rows ∙ same .same-rows
-        }
+    tried-opened e = record {
+      same-network = stays .same-network ∙ same .same-network;
+      finds = found false e;
+      bytes = kept ∙ byte;
+      rows = stays .same-rows ∙ same .same-rows;
+    }
 
     pub tried-added : (v w : Sheet) → true ≡ isSome o → Same-table u v → vec-items (v .marks) ≡ set (vec-items (u .marks)) k 1
         → w .network ≡ v .network → w .marks ≡ v .marks → rows-of w ≡ set (rows-of v) k (met (row-at (rows-of v) k) Added) → Tried s k true w
     tried-added v w e back put net marks is =
         let rows : rows-of v ≡ rows-of s = back .same-rows ∙ stays .same-rows ∙ same .same-rows in
-        record
-        { same-network = net ∙ back .same-network ∙ stays .same-network ∙ same .same-network
-        ; finds = found true e
-        ; bytes = ap vec-items marks ∙ put ∙ ap (λ (xs : List ℕ). set xs k 1) (kept ∙ byte)
-        ; rows = is ∙ ap (λ (xs : List Row). set xs k (met (row-at xs k) Added)) rows
+        record {
+          same-network = net ∙ back .same-network ∙ stays .same-network ∙ same .same-network;
+          finds = found true e;
+          bytes = ap vec-items marks ∙ put ∙ ap (λ (xs : List ℕ). set xs k 1) (kept ∙ byte);
+          rows = is ∙ ap (λ (xs : List Row). set xs k (met (row-at xs k) Added)) rows;
         }
 
 -- THE WAY DOWN
@@ -92,17 +90,17 @@ no-more true = refl
 no-more false = refl
 
 pub search-none : (s : Sheet) (i : ℕ) → i ≡ figures-of s .shape .cells → vec-items (s .marks) ≡ bytesOf 1 (rows-of s) → Searching s i 0 s
-search-none s i top is = subst (λ j. Searching s j 0 s) (sym top) record
-    { same-network = refl
-    ; same-figures = refl
-    ; inside = omega arith
-    ; untried = λ c l. refl
-    ; bytes = λ c.
-        ap (λ (xs : List ℕ). withheld-by xs c) is
-        ∙ bytes-half s 1 (figures-of s .shape .cells) (omega arith) (λ x l. sym (lt-ltb x (figures-of s .shape .cells) l)) c
-    ; leads = ap (reopen (figures-of s) (newly (figures-of s) (stands s)) (figures-of s .shape .cells)) (half-closed s)
-    ; counts = sym (sum-none (figures-of s .shape .cells) _ (λ c l. ap (λ b. cond b 1 0) (no-more (stands s .complement c))))
-    }
+search-none s i top is = subst (λ j. Searching s j 0 s) (sym top) record {
+  same-network = refl;
+  same-figures = refl;
+  inside = omega arith;
+  untried = λ c l. refl;
+  bytes = λ c.
+      ap (λ (xs : List ℕ). withheld-by xs c) is
+      ∙ bytes-half s 1 (figures-of s .shape .cells) (omega arith) (λ x l. sym (lt-ltb x (figures-of s .shape .cells) l)) c;
+  leads = ap (reopen (figures-of s) (newly (figures-of s) (stands s)) (figures-of s .shape .cells)) (half-closed s);
+  counts = sym (sum-none (figures-of s .shape .cells) _ (λ c l. ap (λ b. cond b 1 0) (no-more (stands s .complement c))));
+}
 
 pub few-added : (before : Sheet) (i n : ℕ) (now : Sheet) → Searching before i n now → n ≤ 512
 few-added before i n now h =
@@ -150,18 +148,18 @@ module _ (before now : Sheet) (k n : ℕ) (so-far : Searching before (k + 1) n n
 
   -- the cell is not open, and stays
   pub step-old : isOpen (mark-at (rows-of now) k) ≡ false → Searching before k n now
-  step-old e = record
-      { same-network = so-far .same-network
-      ; same-figures = so-far .same-figures
-      ; inside = omega (arith, so-far .inside)
-      ; untried = λ c l. so-far .untried c (omega arith)
-      ; bytes = λ c. so-far .bytes c ∙ ap (λ (x : Standing). withheld F x c) (half-old (rows-of now) k e)
-      ; leads =
-          ap (reopen F new k) (sym (half-old (rows-of now) k e))
-          ∙ sym (turn-by F new k st false (isSome (audit F (withheld F (opened k st)))) (new-is false e) refl)
-          ∙ so-far .leads
-      ; counts = so-far .counts
-      }
+  step-old e = record {
+    same-network = so-far .same-network;
+    same-figures = so-far .same-figures;
+    inside = omega (arith, so-far .inside);
+    untried = λ c l. so-far .untried c (omega arith);
+    bytes = λ c. so-far .bytes c ∙ ap (λ (x : Standing). withheld F x c) (half-old (rows-of now) k e);
+    leads =
+        ap (reopen F new k) (sym (half-old (rows-of now) k e))
+        ∙ sym (turn-by F new k st false (isSome (audit F (withheld F (opened k st)))) (new-is false e) refl)
+        ∙ so-far .leads;
+    counts = so-far .counts;
+  }
 
   module _ (e : mark-at (rows-of now) k ≡ Open) where
     needless : ltb 0 (F .need k) ≡ false
@@ -176,7 +174,7 @@ module _ (before now : Sheet) (k n : ℕ) (so-far : Searching before (k + 1) n n
     pub open-hidden : Hidden-but now k
     open-hidden c l h =
         eqb-true (getD (set (vec-items (now .marks)) k 0) c 0) 1
-          (bytes-shown c ∙ or-left (ltb 0 (F .need c)) _ (ap (λ (G : Figures). ltb 0 (G .need c)) (sym (so-far .same-figures)) ∙ lt-ltb 0 (needs (rows-of now) c) h))
+        (bytes-shown c ∙ or-left (ltb 0 (F .need c)) _ (ap (λ (G : Figures). ltb 0 (G .need c)) (sym (so-far .same-figures)) ∙ lt-ltb 0 (needs (rows-of now) c) h))
 
     audits : (b : Bool) → b ≡ isSome (audit (figures-of now) (withheld-by (set (vec-items (now .marks)) k 0))) → isSome (audit F (withheld F (opened k st))) ≡ b
     audits b f = sym (f
@@ -186,23 +184,23 @@ module _ (before now : Sheet) (k n : ℕ) (so-far : Searching before (k + 1) n n
 
     -- nobody is exposed, and the cell is open again
     pub step-opened : (after : Sheet) → Tried now k false after → Searching before k n after
-    step-opened after t = record
-        { same-network = t .same-network ∙ so-far .same-network
-        ; same-figures = same-figures-by now after (t .same-network) (ap figures (t .rows)) (ap needs (t .rows)) ∙ so-far .same-figures
-        ; inside = omega (arith, so-far .inside)
-        ; untried = λ c l. ap (λ (rows : List Row). mark-at rows c) (t .rows) ∙ so-far .untried c (omega arith)
-        ; bytes = λ c.
-            ap (λ (xs : List ℕ). withheld-by xs c) (t .bytes) ∙ bytes-shown c
-            ∙ ap (λ (rows : List Row). withheld F (half k rows) c) (sym (t .rows))
-        ; leads =
-            ap (λ (rows : List Row). reopen F new k (half k rows)) (t .rows)
-            ∙ ap (reopen F new k) (sym (half-opened (rows-of now) k e))
-            ∙ sym (turn-by F new k st true false (new-is true (ap isOpen e)) (audits false (t .finds)))
-            ∙ so-far .leads
-        ; counts =
-            so-far .counts
-            ∙ ap (λ (rows : List Row). count-below (F .shape .cells) (λ c. standing-of rows .complement c && not (stands before .complement c))) (sym (t .rows))
-        }
+    step-opened after t = record {
+      same-network = t .same-network ∙ so-far .same-network;
+      same-figures = same-figures-by now after (t .same-network) (ap figures (t .rows)) (ap needs (t .rows)) ∙ so-far .same-figures;
+      inside = omega (arith, so-far .inside);
+      untried = λ c l. ap (λ (rows : List Row). mark-at rows c) (t .rows) ∙ so-far .untried c (omega arith);
+      bytes = λ c.
+          ap (λ (xs : List ℕ). withheld-by xs c) (t .bytes) ∙ bytes-shown c
+          ∙ ap (λ (rows : List Row). withheld F (half k rows) c) (sym (t .rows));
+      leads =
+          ap (λ (rows : List Row). reopen F new k (half k rows)) (t .rows)
+          ∙ ap (reopen F new k) (sym (half-opened (rows-of now) k e))
+          ∙ sym (turn-by F new k st true false (new-is true (ap isOpen e)) (audits false (t .finds)))
+          ∙ so-far .leads;
+      counts =
+          so-far .counts
+          ∙ ap (λ (rows : List Row). count-below (F .shape .cells) (λ c. standing-of rows .complement c && not (stands before .complement c))) (sym (t .rows));
+    }
 
     -- somebody is exposed, and the cell is a complement
     module _ (after : Sheet) (t : Tried now k true after) where
@@ -219,31 +217,36 @@ module _ (before now : Sheet) (k n : ℕ) (so-far : Searching before (k + 1) n n
       one-more =
           let was : mark-at (rows-of before) k ≡ Open = sym (so-far .untried k (omega arith)) ∙ e in
           let new-one : _≡_ {A = ℕ} (cond (gains after k) 1 0) 1 =
-              ap (λ m. cond (isComplement m && not (stands before .complement k)) 1 0) there ∙ ap (λ m. cond (not (isComplement m)) 1 0) was in
+          ap (λ m. cond (isComplement m && not (stands before .complement k)) 1 0) there ∙ ap (λ m. cond (not (isComplement m)) 1 0) was in
           let old-one : _≡_ {A = ℕ} (cond (gains now k) 1 0) 0 = ap (λ m. cond (isComplement m && not (stands before .complement k)) 1 0) e in
-          omega (arith, new-one, old-one, so-far .counts,
+          omega (
+            arith,
+            new-one,
+            old-one,
+            so-far .counts,
             sum-but (F .shape .cells) k (λ c. cond (gains after c) 1 0) (λ c. cond (gains now c) 1 0) in-cells
-              (λ c l ne. ap (λ m. cond (isComplement m && not (stands before .complement c)) 1 0) (elsewhere c ne)))
+                (λ c l ne. ap (λ m. cond (isComplement m && not (stands before .complement c)) 1 0) (elsewhere c ne)),
+          )
 
       pub step-added : Searching before k (n + 1) after
-      step-added = record
-          { same-network = t .same-network ∙ so-far .same-network
-          ; same-figures =
-              same-figures-by now after (t .same-network)
-                (met-figures (rows-of now) (rows-of after) k Added (t .rows)) (met-needs (rows-of now) (rows-of after) k Added (t .rows))
-              ∙ so-far .same-figures
-          ; inside = omega (arith, so-far .inside)
-          ; untried = λ c l. elsewhere c (below-other c l) ∙ so-far .untried c (omega arith)
-          ; bytes = λ c.
-              ap (λ (xs : List ℕ). withheld-by xs c) (t .bytes)
-              ∙ bytes-back F (rows-of now) (vec-items (now .marks)) k in-marks e (so-far .bytes) c
-              ∙ ap (λ (x : Standing). withheld F x c) (half-added (rows-of now) k (rows-of after) in-rows e (t .rows))
-          ; leads =
-              ap (reopen F new k) (sym (half-added (rows-of now) k (rows-of after) in-rows e (t .rows)))
-              ∙ sym (turn-by F new k st true true (new-is true (ap isOpen e)) (audits true (t .finds)))
-              ∙ so-far .leads
-          ; counts = one-more
-          }
+      step-added = record {
+        same-network = t .same-network ∙ so-far .same-network;
+        same-figures =
+            same-figures-by now after (t .same-network)
+            (met-figures (rows-of now) (rows-of after) k Added (t .rows)) (met-needs (rows-of now) (rows-of after) k Added (t .rows))
+            ∙ so-far .same-figures;
+        inside = omega (arith, so-far .inside);
+        untried = λ c l. elsewhere c (below-other c l) ∙ so-far .untried c (omega arith);
+        bytes = λ c.
+            ap (λ (xs : List ℕ). withheld-by xs c) (t .bytes)
+            ∙ bytes-back F (rows-of now) (vec-items (now .marks)) k in-marks e (so-far .bytes) c
+            ∙ ap (λ (x : Standing). withheld F x c) (half-added (rows-of now) k (rows-of after) in-rows e (t .rows));
+        leads =
+            ap (reopen F new k) (sym (half-added (rows-of now) k (rows-of after) in-rows e (t .rows)))
+            ∙ sym (turn-by F new k st true true (new-is true (ap isOpen e)) (audits true (t .finds)))
+            ∙ so-far .leads;
+        counts = one-more;
+      }
         where
           below-other : (c : ℕ) → c < k → c ≢ k
           below-other c l = omega arith
@@ -272,9 +275,9 @@ module _ (s t after : Sheet) (i n : ℕ) (same : Same-table s t) (done : i ≤ 0
       ∙ ap (λ (x : Standing). count-below (figures-of s .shape .cells) (λ c. searched (figures-of s) (stands s) .complement c && not (x .complement c))) stands-same
 
   pub search-acted : Acted s seek (count n) after
-  search-acted = record
-      { does = record { right = ap count search-counts; leaves = stands-searched }
-      ; same-network = ended .same-network ∙ same .same-network
-      ; same-figures = ended .same-figures ∙ figures-same
-      ; same-rows = λ r f. absurd (count-never n r f)
-      }
+  search-acted = record {
+    does = record { right = ap count search-counts; leaves = stands-searched };
+    same-network = ended .same-network ∙ same .same-network;
+    same-figures = ended .same-figures ∙ figures-same;
+    same-rows = λ r f. absurd (count-never n r f);
+  }

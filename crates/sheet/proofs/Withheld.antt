@@ -3,26 +3,23 @@ use mathlib.Core.Path.{_≡_, refl, sym, _∙_, ap, fun-ext}
 use mathlib.Core.Bool.{Bool, true, false, cond, not, _&&_}
 use mathlib.Core.List.{List}
 use mathlib.Core.Logic.{inl, inr}
-use Prim.Native.Nat.{ℕ, _<_, _≤_}
+use Prim.Native.Nat.{ℕ, _≤_}
 use native.Mathlib.Omega.{arith}
 use lib.Dec.{ltb}
-use Rattle.std.proofs.shelf.Tests.{cases-lt, cases-bool, true≢false, false≢true, not-true}
-use Rattle.std.specs.declared.option.Option.{Option}
-use Rattle.std.specs.declared.option.Option.the-variants.{Some, None}
-use Rattle.refusals.specs.declared.Refusal.{Refusal}
+use Rattle.std.proofs.shelf.Tests.{cases-lt, cases-bool, true≢false, false≢true}
+use Rattle.std.specs.declared.option.Option.the-variants.{None}
 use Rattle.layouts.specs.declared.memory.Mark.{Mark}
 use Rattle.layouts.specs.declared.memory.Mark.the-variants.{Open, Sensitive, Complement, Printed, Barred}
 use Rattle.sums.specs.Sums.{among}
-use Rattle.readings.specs.Exposure.{Figures, sensitive}
+use Rattle.readings.specs.Exposure.{Figures}
 use Rattle.readings.specs.Rows.{needs}
 use Rattle.intake.specs.Marks.{mark-at}
-use Rattle.runs.specs.Acts.{Standing, withhold, refusal, accepted, badEntry, Answer, refused, count, unless, complements}
+use Rattle.runs.specs.Acts.{withhold, refusal, accepted, badEntry, count, unless, complements}
 use Rattle.sheet.specs.declared.held.Sheet.{Sheet}
 use Rattle.sheet.specs.declared.events.Event.the-variants.{Listed, Unlisted}
 use Rattle.sheet.specs.Cells.{goes-with}
 use Rattle.sheet.specs.Events.{next-mark}
-use Rattle.sheet.specs.Standing.{isComplement, isPrinted, standing-of}
-use Rattle.sheet.specs.Calls.{answered, counted}
+use Rattle.sheet.specs.Standing.{isComplement, isPrinted}
 use Rattle.sheet.specs.Sheets.{rows-of, figures-of, stands, Met, Acted, listing}
 use Rattle.sheet.proofs.Answering.{count-never}
 use Rattle.sheet.proofs.Begun.{mark-past}
@@ -59,26 +56,29 @@ module _ (before after : Sheet) (l : List ℕ) (good : refusal (figures-of befor
   entries = entries-accepted (figures-of before) (stands before) l good
 
   beyond : (c : ℕ) → figures-of before .shape .cells ≤ c → among c l ≡ false
-  beyond c h = elim (cases-bool (among c l))
-    [ inl e ↦ let k = listed-good (figures-of before) (stands before) l c entries e in absurd (omega (arith, k .0))
-    | inr e ↦ e ]
+  beyond c h = elim (cases-bool (among c l)) [
+    | inl e ↦ let k = listed-good (figures-of before) (stands before) l c entries e in absurd (omega (arith, k .0))
+    | inr e ↦ e
+  ]
 
   complement-at : (c : ℕ) → isComplement (mark-at (rows-of after) c) ≡ (among c l && not (ltb 0 (needs (rows-of before) c)))
-  complement-at c = elim (cases-lt c (figures-of before .shape .cells))
-    [ inl h ↦
+  complement-at c = elim (cases-lt c (figures-of before .shape .cells)) [
+    | inl h ↦
         ap isComplement (met .marks c h)
         ∙ listed-complement (needs (rows-of before) c) (mark-at (rows-of before) c) (among c l) (tied-at before c h)
-            (λ e. listed-good (figures-of before) (stands before) l c entries e .1)
+        (λ e. listed-good (figures-of before) (stands before) l c entries e .1)
     | inr h ↦
         ap isComplement (mark-past (rows-of after) c (omega (arith, rows-long after, same-cells)))
-        ∙ ap (λ b. b && not (ltb 0 (needs (rows-of before) c))) (sym (beyond c h)) ]
+        ∙ ap (λ b. b && not (ltb 0 (needs (rows-of before) c))) (sym (beyond c h))
+  ]
 
   printed-at : (c : ℕ) → isPrinted (mark-at (rows-of after) c) ≡ isPrinted (mark-at (rows-of before) c)
-  printed-at c = elim (cases-lt c (figures-of before .shape .cells))
-    [ inl h ↦ ap isPrinted (met .marks c h) ∙ listed-printed (mark-at (rows-of before) c) (among c l)
+  printed-at c = elim (cases-lt c (figures-of before .shape .cells)) [
+    | inl h ↦ ap isPrinted (met .marks c h) ∙ listed-printed (mark-at (rows-of before) c) (among c l)
     | inr h ↦
         ap isPrinted (mark-past (rows-of after) c (omega (arith, rows-long after, same-cells)))
-        ∙ ap isPrinted (sym (mark-past (rows-of before) c (omega (arith, rows-long before)))) ]
+        ∙ ap isPrinted (sym (mark-past (rows-of before) c (omega (arith, rows-long before))))
+  ]
 
   pub stands-withheld : stands after ≡ accepted (figures-of before) (stands before) (withhold l)
   stands-withheld = λ i. record { complement = fun-ext complement-at i; printed = fun-ext printed-at i }
@@ -89,12 +89,12 @@ module _ (before after : Sheet) (l : List ℕ) (good : refusal (figures-of befor
       e ∙ ap (λ (F : Figures). complements F (stands after)) (met .same-figures) ∙ ap (complements (figures-of before)) stands-withheld
 
   pub acted-withheld : (n : ℕ) → n ≡ complements (figures-of after) (stands after) → Acted before (withhold l) (count n) after
-  acted-withheld n e = record
-      { does = record
-          { right = ap count (counts-withheld n e) ∙ ap (λ o. unless o (count (complements (figures-of before) (accepted (figures-of before) (stands before) (withhold l))))) (sym good)
-          ; leaves = stands-withheld
-          }
-      ; same-network = met .same-network
-      ; same-figures = met .same-figures
-      ; same-rows = λ r f. absurd (count-never n r f)
-      }
+  acted-withheld n e = record {
+    does = record {
+      right = ap count (counts-withheld n e) ∙ ap (λ o. unless o (count (complements (figures-of before) (accepted (figures-of before) (stands before) (withhold l))))) (sym good);
+      leaves = stands-withheld;
+    };
+    same-network = met .same-network;
+    same-figures = met .same-figures;
+    same-rows = λ r f. absurd (count-never n r f);
+  }

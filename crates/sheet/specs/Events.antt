@@ -1,5 +1,4 @@
 -- The table of marks and events: the two together decide the next mark.
-use mathlib.Core.Path.{_≡_}
 use Rattle.layouts.specs.declared.memory.Row.{Row}
 use Rattle.layouts.specs.declared.memory.Mark.{Mark}
 use Rattle.layouts.specs.declared.memory.Mark.the-variants.{Open, Sensitive, Complement, Printed, Barred}

@@ -3,26 +3,19 @@ use mathlib.Core.Path.{_≡_}
 use mathlib.Core.Bool.{cond}
 use mathlib.Core.List.{List}
 use Prim.Native.Nat.{ℕ, _<_}
-use lib.Dec.{leb}
 use Rattle.std.specs.Of.Vec.{vec-items}
-use Rattle.std.specs.declared.option.Option.{Option}
-use Rattle.std.specs.declared.option.Option.the-variants.{Some, None}
-use Rattle.std.specs.declared.result.Result.{Result}
-use Rattle.std.specs.declared.result.Result.the-variants.{Ok, Err}
 use Rattle.refusals.specs.declared.Refusal.{Refusal}
-use Rattle.refusals.specs.declared.Refusal.the-variants.{UnknownCell}
 use Rattle.sums.specs.Sums.{among}
 use Rattle.layouts.specs.declared.memory.Row.{Row}
 use Rattle.layouts.specs.Admission.{shapeOf}
 use Rattle.readings.specs.Exposure.{Figures}
 use Rattle.readings.specs.Rows.{looked-at}
-use Rattle.runs.specs.Acts.{Act, Answer, refused, count, Standing}
+use Rattle.runs.specs.Acts.{Act, Answer, refused, Standing}
 use Rattle.runs.specs.Runs.{Does}
 use Rattle.intake.specs.Marks.{mark-at}
 use Rattle.sheet.specs.declared.held.Sheet.{Sheet}
 use Rattle.sheet.specs.declared.events.Event.{Event}
 use Rattle.sheet.specs.declared.events.Event.the-variants.{Listed, Unlisted}
-use Rattle.sheet.specs.Cells.{row-at}
 use Rattle.sheet.specs.Events.{next-mark}
 use Rattle.sheet.specs.Standing.{standing-of}
 

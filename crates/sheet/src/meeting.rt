@@ -23,7 +23,11 @@ impl Cell {
             Mark::Sensitive => need > 0,
             Mark::Barred => false,
         };
-        if tied { Some(Cell { figure, need, mark }) } else { None }
+        if tied {
+            Some(Cell { figure, need, mark })
+        } else {
+            None
+        }
     }
 
     pub(crate) fn into_row(self) -> Row
@@ -39,9 +43,21 @@ impl Cell {
         let figure = self.figure;
         let need = self.need;
         match (self.mark, event) {
-            (Mark::Open, Event::Listed | Event::Added) => *self = Cell { figure, need, mark: Mark::Complement },
-            (Mark::Open, Event::PagePrinted) => *self = Cell { figure, need, mark: Mark::Printed },
-            (Mark::Complement, Event::Unlisted) => *self = Cell { figure, need, mark: Mark::Open },
+            (Mark::Open, Event::Listed | Event::Added) => *self = Cell {
+                figure,
+                need,
+                mark: Mark::Complement,
+            },
+            (Mark::Open, Event::PagePrinted) => *self = Cell {
+                figure,
+                need,
+                mark: Mark::Printed,
+            },
+            (Mark::Complement, Event::Unlisted) => *self = Cell {
+                figure,
+                need,
+                mark: Mark::Open,
+            },
             (_, _) => {}
         }
     }

@@ -1,7 +1,7 @@
 // Printing a page.
 ghost use mathlib.Core.List.{_++_};
 ghost use mathlib.Core.Path.{_≡_};
-ghost use Prim.Native.Nat.{ℕ, _*_, _≤_};
+ghost use Prim.Native.Nat.{_*_, _≤_};
 ghost use lib.ListN.{drop, length};
 ghost use Rattle.readings.specs.Exposure.{audit};
 ghost use Rattle.runs.specs.Acts.{pageOf, print, withheld};

@@ -1,13 +1,10 @@
 // The search for complements.
-ghost use mathlib.Core.Bool.{cond};
 ghost use mathlib.Core.Path.{_≡_};
 ghost use Prim.Native.Nat.{ℕ, _<_};
 ghost use lib.ListN.{getD, set};
 ghost use Rattle.std.specs.Of.Vec.{vec-items};
-ghost use Rattle.std.specs.Options.{isSome};
 ghost use Rattle.layouts.specs.Blank.{isOpen};
 ghost use Rattle.readings.specs.Exposure.{audit};
-ghost use Rattle.readings.specs.Paths.{withheld-by};
 ghost use Rattle.readings.specs.Rows.{needs};
 ghost use Rattle.runs.specs.Acts.{count, seek};
 ghost use Rattle.sheet.specs.Calls.{search-answer};

@@ -15,6 +15,7 @@ use readings::trials::Trials;
 use refusals::Side;
 
 pub(crate) const SHOWN: u8 = 0;
+
 pub(crate) const WITHHELD: u8 = 1;
 
 fn byte_of(mark: Mark, open: u8) -> u8
@@ -68,7 +69,6 @@ impl Sheet {
             via: &mut self.via,
             network: &self.network,
             rows: self.table.rows.as_slice(),
-        }
-        .audit()
+        }.audit()
     }
 }

@@ -18,7 +18,11 @@ const ENTRIES: usize = 512;
 fn event_of(cells: &[usize], cell: usize) -> Event
     ensures { λ r. ⌜ r ≡ listing (now (cells .entry)) cell ⌝ }
 {
-    if is_among(cell, cells) { Event::Listed } else { Event::Unlisted }
+    if is_among(cell, cells) {
+        Event::Listed
+    } else {
+        Event::Unlisted
+    }
 }
 
 impl Sheet {

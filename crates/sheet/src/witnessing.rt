@@ -15,7 +15,12 @@ use refusals::Side;
 impl Sheet {
     // Writes a reading to the front of the memory that has the cell's figure and need together there, or more, for side 1, and the figure
     // less the need, or less, for any other side. Answers the cell count.
-    pub fn witness(&mut self, cell: usize, side: usize, memory: &mut [u64]) -> Result<usize, Refusal>
+    pub fn witness(
+        &mut self,
+        cell: usize,
+        side: usize,
+        memory: &mut [u64],
+    ) -> Result<usize, Refusal>
         ensures answer { λ r. ⌜ r ≡ witness-answer (now (self .entry)) cell side (length (now (memory .entry))) ⌝ }
         ensures acted { λ r. ⌜ Acted (now (self .entry)) (witness cell side (length (now (memory .entry)))) (tabled r (now (memory .exit))) (now (self .exit)) ⌝ }
         ensures beyond { λ _. ⌜ drop (figures-of (now (self .entry)) .shape .cells) (now (memory .exit)) ≡ drop (figures-of (now (self .entry)) .shape .cells) (now (memory .entry)) ⌝ }
@@ -29,7 +34,6 @@ impl Sheet {
             via: &mut self.via,
             network: &self.network,
             rows: self.table.rows.as_slice(),
-        }
-        .witness(cell, Side::of(side), memory)
+        }.witness(cell, Side::of(side), memory)
     }
 }

@@ -1,3 +1,4 @@
+-- The bytes so far are those of the rows.
 use Prim.Native.Nat.{ℕ, _<_}
 use mathlib.Core.Path.{_≡_}
 use lib.ListN.{getD}

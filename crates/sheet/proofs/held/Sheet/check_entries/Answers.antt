@@ -1,8 +1,7 @@
-use mathlib.Core.Path.{_≡_, sym, _∙_, ap}
-use mathlib.Core.Bool.{Bool, true, false}
-use Prim.Native.Nat.{ℕ, _<_}
+-- One entry after another is refused for its reason, or passed.
+use mathlib.Core.Path.{sym, _∙_, ap}
 use native.Mathlib.Omega.{arith}
-use lib.ListN.{length, getD}
+use lib.ListN.{getD}
 use Rattle.layouts.specs.declared.memory.Row.{Row}
 use Rattle.readings.specs.Exposure.{Figures}
 use Rattle.runs.specs.Acts.{Standing}
@@ -24,7 +23,7 @@ returns-then-cell-cells c =
     let l = c .args .cells .now in
     let i = c .loop-cell .cell-index in
     sym (ap (λ o. answered o tt)
-      (list-short F st l (c .if-cells-gt-ENTRIES .left) ∙ c .loop-cell .inv ∙ entry-unknown F st l i (c .loop-cell-test .taken) (omega arith)))
+    (list-short F st l (c .if-cells-gt-ENTRIES .left) ∙ c .loop-cell .inv ∙ entry-unknown F st l i (c .loop-cell-test .taken) (omega arith)))
 
 pub returns-then-is-printed : need.returns-then-is-printed
 returns-then-is-printed c =
@@ -33,9 +32,9 @@ returns-then-is-printed c =
     let l = c .args .cells .now in
     let i = c .loop-cell .cell-index in
     sym (ap (λ o. answered o tt)
-      (list-short F st l (c .if-cells-gt-ENTRIES .left) ∙ c .loop-cell .inv
-       ∙ entry-printed F st l i (c .loop-cell-test .taken) (omega arith)
-           (ap isPrinted (mark-of (rows-of (c .args .self .now)) (getD l i 0)) ∙ ap (λ (r : Row). isPrinted (r .mark)) (sym (c .row .ensures)) ∙ sym (c .if-is-printed .ensures tt))))
+    (list-short F st l (c .if-cells-gt-ENTRIES .left) ∙ c .loop-cell .inv
+    ∙ entry-printed F st l i (c .loop-cell-test .taken) (omega arith)
+    (ap isPrinted (mark-of (rows-of (c .args .self .now)) (getD l i 0)) ∙ ap (λ (r : Row). isPrinted (r .mark)) (sym (c .row .ensures)) ∙ sym (c .if-is-printed .ensures tt))))
 
 pub loop-cell-again : need.loop-cell-again
 loop-cell-again c =
@@ -45,7 +44,7 @@ loop-cell-again c =
     let i = c .loop-cell .cell-index in
     c .loop-cell .inv
     ∙ entry-more F st l i (c .loop-cell-test .taken) (omega arith)
-        (ap isPrinted (mark-of (rows-of (c .args .self .now)) (getD l i 0)) ∙ ap (λ (r : Row). isPrinted (r .mark)) (sym (c .row .ensures)) ∙ sym (c .if-is-printed .ensures tt))
+    (ap isPrinted (mark-of (rows-of (c .args .self .now)) (getD l i 0)) ∙ ap (λ (r : Row). isPrinted (r .mark)) (sym (c .row .ensures)) ∙ sym (c .if-is-printed .ensures tt))
 
 pub returns : need.returns
 returns c =
@@ -53,4 +52,4 @@ returns c =
     let st : Standing = stands (c .args .self .now) in
     let l = c .args .cells .now in
     sym (ap (λ o. answered o tt)
-      (list-short F st l (c .if-cells-gt-ENTRIES .left) ∙ c .loop-cell .inv ∙ entries-all F st l (c .loop-cell .cell-index) (c .loop-cell-test .left)))
+    (list-short F st l (c .if-cells-gt-ENTRIES .left) ∙ c .loop-cell .inv ∙ entries-all F st l (c .loop-cell .cell-index) (c .loop-cell-test .left)))

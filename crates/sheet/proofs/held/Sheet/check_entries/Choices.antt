@@ -1,3 +1,4 @@
+-- The entries so far are good, so what is wrong with the rest is what is wrong with the list.
 use mathlib.Core.Path.{_≡_}
 use lib.ListN.{drop}
 use Rattle.runs.specs.Acts.{badEntry}

@@ -1,3 +1,4 @@
+-- The complements below the cell are counted.
 use mathlib.Core.Path.{_≡_}
 use Prim.Native.Nat.{_≤_}
 use Rattle.sums.specs.Sums.{count-below}

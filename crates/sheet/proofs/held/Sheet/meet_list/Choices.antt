@@ -1,3 +1,4 @@
+-- The cells so far have met what the list is to them.
 use Rattle.sheet.specs.Sheets.{listing}
 use Rattle.sheet.proofs.Meetings.{Met-below}
 use Rattle.sheet.proofs.held.Sheet.meet_list.Given as given

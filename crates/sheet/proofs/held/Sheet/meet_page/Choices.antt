@@ -1,3 +1,4 @@
+-- The cells so far have met the page.
 use Rattle.sheet.specs.declared.events.Event.the-variants.{PagePrinted}
 use Rattle.sheet.proofs.Meetings.{Met-below}
 use Rattle.sheet.proofs.held.Sheet.meet_page.Given as given

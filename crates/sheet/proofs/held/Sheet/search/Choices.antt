@@ -1,3 +1,4 @@
+-- The cells from here on are decided.
 use Rattle.sheet.proofs.Tries.{Searching}
 use Rattle.sheet.proofs.held.Sheet.search.Given as given
 

@@ -1,8 +1,8 @@
+-- A list that is refused leaves the sheet as it was; else the sheet stands as an accepted withhold leaves it.
 use mathlib.Core.Path.{_≡_, refl, sym, _∙_, ap}
-use mathlib.Core.Bool.{true, false}
 use Prim.Native.Nat.{ℕ}
 use Rattle.std.specs.declared.option.Option.{Option}
-use Rattle.std.specs.declared.option.Option.the-variants.{Some, None}
+use Rattle.std.specs.declared.option.Option.the-variants.{None}
 use Rattle.std.proofs.shelf.Results.{err-from-errBy}
 use Rattle.std.proofs.shelf.Tests.{true≢false}
 use Rattle.refusals.specs.declared.Refusal.{Refusal}
@@ -21,10 +21,10 @@ returns-in-Break-check-entries c =
     let p = err-from-errBy (c .from-residual .result) (c .from-residual .ensures .1) in
     let why = reason (refusal (figures-of s) (stands s) (withhold l)) _ (c .in-Break-check-entries .ensures tt) in
     rw (p .1, p .2)
-    record
-    { answer = sym (ap (λ (o : Option Refusal). answered o n) why)
-    ; acted = acted-refused s s (withhold l) _ (record { same-network = refl; same-rows = refl }) (sym (ap (λ (o : Option Refusal). unless o (count n)) why))
-    ; unchanged = λ _. refl
+    record {
+      answer = sym (ap (λ (o : Option Refusal). answered o n) why);
+      acted = acted-refused s s (withhold l) _ (record { same-network = refl; same-rows = refl }) (sym (ap (λ (o : Option Refusal). unless o (count n)) why));
+      unchanged = λ _. refl;
     }
 
 pub returns : need.returns
@@ -33,10 +33,10 @@ returns c =
     let l = c .args .cells .now in
     let after = c .meet-list .last .self in
     let good : refusal (figures-of s) (stands s) (withhold l) ≡ None = no-reason _ (c .in-Continue-check-entries .ensures tt) in
-    record
-    { answer =
-        ap (λ n. answered None n) (counts-withheld s after l good (c .meet-list .ensures) (c .complements .result) (c .complements .ensures))
-        ∙ sym (ap (λ (o : Option Refusal). answered o (complements (figures-of s) (accepted (figures-of s) (stands s) (withhold l)))) good)
-    ; acted = acted-withheld s after l good (c .meet-list .ensures) (c .complements .result) (c .complements .ensures)
-    ; unchanged = λ e. absurd (true≢false e)
+    record {
+      answer =
+          ap (λ n. answered None n) (counts-withheld s after l good (c .meet-list .ensures) (c .complements .result) (c .complements .ensures))
+          ∙ sym (ap (λ (o : Option Refusal). answered o (complements (figures-of s) (accepted (figures-of s) (stands s) (withhold l)))) good);
+      acted = acted-withheld s after l good (c .meet-list .ensures) (c .complements .result) (c .complements .ensures);
+      unchanged = λ e. absurd (true≢false e);
     }

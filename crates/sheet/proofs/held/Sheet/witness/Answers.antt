@@ -1,3 +1,4 @@
+-- What the engine answers and writes is the witness of the sheet as it stands.
 use mathlib.Core.Path.{refl}
 use mathlib.Core.List.{List}
 use Prim.Native.Nat.{ℕ}
@@ -11,14 +12,25 @@ pub ghost-witness : need.ghost-witness
 ghost-witness c =
     let s = c .set-bytes .last .self in
     let rows : List Row = c .as-slice .result .now in
-    let is = c .as-slice .ensures .value in
-    ( (lent-long s rows is, s .celled .1, s .celled .2)
-    , (s .related
-    , (lent-balanced s rows is
-    , (lent-within s rows is
-    , (lent-small s rows is
-    , (lent-hidden s rows is (stood-hidden (c .args .self .now) s (c .set-bytes .ensures .same) (c .set-bytes .ensures .bytes))
-    , tt))))) )
+    let is = c .as-slice .ensures .value in (
+      (lent-long s rows is, s .celled .1, s .celled .2),
+      (
+        s .related,
+        (
+          lent-balanced s rows is,
+          (
+            lent-within s rows is,
+            (
+              lent-small s rows is,
+              (
+                lent-hidden s rows is (stood-hidden (c .args .self .now) s (c .set-bytes .ensures .same) (c .set-bytes .ensures .bytes)),
+                tt,
+              ),
+            ),
+          ),
+        ),
+      ),
+    )
 
 pub returns : need.returns
 returns c =
@@ -30,11 +42,11 @@ returns c =
     let lent = c .as-slice .ensures .value in
     let before : List ℕ = c .args .memory .now in
     let memory : List ℕ = c .witness .last .memory in
-    record
-    { answer = witness-answers s t t rows (c .args .cell) (c .args .side) (c .of .result) before memory (c .witness .result) same bytes lent (c .of .ensures) (c .witness .ensures .answer)
-    ; acted = witness-acted s t _ rows (c .args .cell) (c .args .side) (c .of .result) before memory (c .witness .result) same bytes lent (c .of .ensures) (c .witness .ensures .answer)
-        (record { same-network = refl; same-rows = refl }) (c .witness .kept .memory) (c .witness .ensures .written)
-    ; beyond = witness-beyond s t t rows (c .args .cell) (c .args .side) (c .of .result) before memory (c .witness .result) same bytes lent (c .of .ensures) (c .witness .ensures .answer)
-        (c .witness .kept .memory) (c .witness .ensures .beyond)
-    ; untouched = c .witness .ensures .untouched
+    record {
+      answer = witness-answers s t t rows (c .args .cell) (c .args .side) (c .of .result) before memory (c .witness .result) same bytes lent (c .of .ensures) (c .witness .ensures .answer);
+      acted = witness-acted s t _ rows (c .args .cell) (c .args .side) (c .of .result) before memory (c .witness .result) same bytes lent (c .of .ensures) (c .witness .ensures .answer)
+          (record { same-network = refl; same-rows = refl }) (c .witness .kept .memory) (c .witness .ensures .written);
+      beyond = witness-beyond s t t rows (c .args .cell) (c .args .side) (c .of .result) before memory (c .witness .result) same bytes lent (c .of .ensures) (c .witness .ensures .answer)
+          (c .witness .kept .memory) (c .witness .ensures .beyond);
+      untouched = c .witness .ensures .untouched;
     }

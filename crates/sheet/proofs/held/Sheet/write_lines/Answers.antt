@@ -1,8 +1,9 @@
+-- One line more is written, up to the last.
 use mathlib.Core.Path.{_≡_, sym, _∙_, ap}
-use mathlib.Core.List.{List, _++_}
-use Prim.Native.Nat.{ℕ, _+_, _*_, _<_, _≤_}
+use mathlib.Core.List.{_++_}
+use Prim.Native.Nat.{ℕ, _+_, _*_, _<_}
 use native.Mathlib.Omega.{arith}
-use lib.ListN.{length, drop}
+use lib.ListN.{drop}
 use Rattle.std.specs.declared.option.Option.{Option}
 use Rattle.layouts.specs.declared.memory.Row.{Row}
 use Rattle.page.specs.Page.{page}
@@ -33,7 +34,7 @@ loop-cell-again c =
     let s = c .args .self .now in
     c .write-line .ensures .after
     ∙ line-more (figures-of s .shape .cells) (shown (figures-of s) (stands s)) (c .args .memory .now) (sheet-printable s) (c .pre) (c .loop-cell .cell) (c .loop-cell .memory)
-        (omega arith) (c .loop-cell .inv) (c .shown .result) (shown-read s (c .loop-cell .cell) (c .row .result) (c .shown .result) (omega arith) (c .row .ensures) (c .shown .ensures))
+    (omega arith) (c .loop-cell .inv) (c .shown .result) (shown-read s (c .loop-cell .cell) (c .row .result) (c .shown .result) (omega arith) (c .row .ensures) (c .shown .ensures))
 
 pub returns : need.returns
 returns c =

@@ -1,3 +1,4 @@
+-- The lines so far are written, and what stood after them stays.
 use mathlib.Core.Path.{_≡_}
 use mathlib.Core.List.{_++_}
 use Prim.Native.Nat.{_*_}

@@ -34,11 +34,11 @@ module _ (s : Shape) (c : ℕ) where
       let rest = amounts-under s xs c in
       ⊎-elim
       (λ (e : s .counts c (x .leaf) ≡ true).
-        ⊎-elim
-        (λ (f : s .counts c (y .leaf) ≡ true).
-          rw (e, f) (shuffled-swap (x .amount ∷ y .amount ∷ rest) (y .amount ∷ x .amount ∷ rest) 0 1 (omega arith) (omega arith) refl))
-        (λ (f : s .counts c (y .leaf) ≡ false). rw (e, f) (shuffled-refl (x .amount ∷ rest)))
-        (cases-bool (s .counts c (y .leaf))))
+      ⊎-elim
+      (λ (f : s .counts c (y .leaf) ≡ true).
+      rw (e, f) (shuffled-swap (x .amount ∷ y .amount ∷ rest) (y .amount ∷ x .amount ∷ rest) 0 1 (omega arith) (omega arith) refl))
+      (λ (f : s .counts c (y .leaf) ≡ false). rw (e, f) (shuffled-refl (x .amount ∷ rest)))
+      (cases-bool (s .counts c (y .leaf))))
       (λ (e : s .counts c (x .leaf) ≡ false). rw e (shuffled-refl (under (y ∷ xs))))
       (cases-bool (s .counts c (x .leaf)))
 
@@ -52,8 +52,8 @@ module _ (s : Shape) (c : ℕ) where
       let rest = set ts m x in
       shuffled-trans (under (x ∷ t ∷ ts)) (under (t ∷ x ∷ ts)) (under (y ∷ t ∷ rest)) (under-swap x t ts)
       (shuffled-trans (under (t ∷ x ∷ ts)) (under (t ∷ y ∷ rest)) (under (y ∷ t ∷ rest))
-        (under-cons t (x ∷ ts) (y ∷ rest) (under-set x ts m d (le-of-suc-le-suc h)))
-        (under-swap t y rest))
+      (under-cons t (x ∷ ts) (y ∷ rest) (under-set x ts m d (le-of-suc-le-suc h)))
+      (under-swap t y rest))
 
   -- the contributions at i and j, at any default, change places
   under-both : (xs : List Contribution) (i j : ℕ) (d : Contribution) → i < length xs → j < length xs

@@ -23,10 +23,10 @@ numbered n (p ∷ ps) = record { leaf = p .0; company = n; amount = p .1 } ∷ n
 -- a table of two rows and two columns, with n companies of amount 1 in cell 1
 abbrev pub entered : ℕ → List Contribution
 entered n = numbered 1
-    ( of-leaf 0 (150 ∷ 40 ∷ 10 ∷ [])
+    (of-leaf 0 (150 ∷ 40 ∷ 10 ∷ [])
     ++ of-leaf 1 (replicate n 1)
     ++ of-leaf 3 (replicate 4 25)
-    ++ of-leaf 4 (replicate 4 75) )
+    ++ of-leaf 4 (replicate 4 75))
 
 abbrev pub gridA : List Contribution
 gridA = entered 20

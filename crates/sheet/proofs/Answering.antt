@@ -1,0 +1,27 @@
+-- Answers and the reasons for them.
+use mathlib.Core.Path.{_≡_, refl, sym, _∙_, ap}
+use mathlib.Core.Logic.{_⊎_}
+use Rattle.std.specs.declared.option.Option.{Option}
+use Rattle.std.specs.declared.option.Option.the-variants.{Some, None}
+use Rattle.std.specs.declared.result.Result.{Result}
+use Rattle.std.specs.declared.result.Result.the-variants.{Ok, Err}
+use Rattle.std.specs.Results.{isOk}
+use Rattle.std.proofs.shelf.Tests.{true≢false, false≢true}
+use Rattle.refusals.specs.declared.Refusal.{Refusal}
+use Rattle.runs.specs.Acts.{Act, Answer, refused, Right}
+use Rattle.sheet.specs.declared.held.Sheet.{Sheet}
+use Rattle.sheet.specs.Sheets.{figures-of, stands, Acted, answered}
+
+-- the reason for a refusal
+pub reason : (o : Option Refusal) (r : Refusal) → _≡_ {A = Result (Unit {0}) Refusal} (Err r) (answered o tt) → o ≡ Some r
+reason (Some s) r e = cc
+reason None r e = absurd (false≢true (ap isOk e))
+
+-- what is accepted has no reason against it
+pub no-reason : (o : Option Refusal) → _≡_ {A = Result (Unit {0}) Refusal} (Ok tt) (answered o tt) → o ≡ None
+no-reason (Some s) e = absurd (true≢false (ap isOk e))
+no-reason None e = refl
+
+-- a call that is refused, and leaves the sheet as it was, has acted
+pub acted-refused : (s : Sheet) (act : Act) (r : Refusal) → Right (figures-of s) (stands s) act (refused r) → Acted s act (refused r) s
+acted-refused s act r e = record { does = record { right = e; leaves = refl }; same-network = refl; same-figures = refl; same-rows = λ _ _. refl }

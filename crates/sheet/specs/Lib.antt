@@ -1,0 +1,5 @@
+pub mod Standing
+pub mod Events
+pub mod Cells
+pub mod Records
+pub mod Sheets

@@ -32,8 +32,7 @@ reading-more sh less more v y sub r = record {
 }
 
 pub hidden-more : (F : Figures) (less more : ℕ → Bool) → Withholds (F .shape .cells) less more → (c : ℕ) (side : Side) → Hidden F less c side → Hidden F more c side
-hidden-more F less more sub c Up (y, r, far) = (y, reading-more (F .shape) less more (F .figure) y sub r, far)
-hidden-more F less more sub c Down (y, r, far) = (y, reading-more (F .shape) less more (F .figure) y sub r, far)
+hidden-more F less more sub c side (y, w) = (y, record { reading = reading-more (F .shape) less more (F .figure) y sub (w .reading); away = w .away })
 
 pub safe-more : (F : Figures) (less more : ℕ → Bool) → Withholds (F .shape .cells) less more → Safe F less → Safe F more
 safe-more F less more sub safe c l h side = hidden-more F less more sub c side (safe c l h side)
@@ -51,12 +50,12 @@ exposes-less F less more sub (c, side, told) = (
 
 -- A READING FAR AWAY, BY ITS PARTS
 pub hidden-parts : (F : Figures) (W : ℕ → Bool) (c : ℕ) (side : Side) → Hidden F W c side → (t : ℕ → ℕ) × Reading (F .shape) W (F .figure) t × Away F side c t
-hidden-parts F W c Up far = far
-hidden-parts F W c Down far = far
+hidden-parts F W c Up (y, w) = (y, w .reading, w .away)
+hidden-parts F W c Down (y, w) = (y, w .reading, w .away)
 
 pub parts-hidden : (F : Figures) (W : ℕ → Bool) (c : ℕ) (side : Side) (t : ℕ → ℕ) → Reading (F .shape) W (F .figure) t → Away F side c t → Hidden F W c side
-parts-hidden F W c Up t r far = (t, r, far)
-parts-hidden F W c Down t r far = (t, r, far)
+parts-hidden F W c Up t r far = (t, record { reading = r; away = far })
+parts-hidden F W c Down t r far = (t, record { reading = r; away = far })
 
 pub sensitive-test : (F : Figures) (c : ℕ) → Sensitive F c → sensitive (F .need) c ≡ true
 sensitive-test F c s = lt-ltb 0 (F .need c) (s .has-need)
@@ -93,10 +92,12 @@ module _ (F : Figures) (ok : Settled F) where
       let k : ℕ = F .need c in
       let v : ℕ = F .figure c in (
         (λ x. (1 + k) * F .figure x),
-        scaled-reading W all (1 + k),
-        omega (arith, add-mul 1 k v, one-mul v, le-mul-of-pos-right {m = v} k (omega (arith, ltb-true 0 k h, ok .within c l))),
+        record {
+          reading = scaled-reading W all (1 + k);
+          away = omega (arith, add-mul 1 k v, one-mul v, le-mul-of-pos-right {m = v} k (omega (arith, ltb-true 0 k h, ok .within c l)));
+        },
       )
-  safe-all W all c l h Down = ((λ x. 0 * F .figure x), scaled-reading W all 0, omega (arith, zero-mul (F .figure c), ok .within c l))
+  safe-all W all c l h Down = ((λ x. 0 * F .figure x), record { reading = scaled-reading W all 0; away = omega (arith, zero-mul (F .figure c), ok .within c l) })
 
   -- THE AUDIT
   pub fit : (st : Standing) → Fit F (withheld F st)

@@ -70,7 +70,9 @@ weak = accepted sheetA fresh (withhold (1 ∷ 3 ∷ []))
 
 -- row 0 and column 0 then give cell 0 away
 weak-exposes : Hidden sheetA (withheld sheetA weak) 0 Up → ⊥
-weak-exposes (y, r, far) =
+weak-exposes (y, w) =
+    let r = w .reading in
+    let far = w .away in
     omega (
       arith,
       r .balanced 1 (lit< tt),
@@ -112,8 +114,8 @@ enough-withholds (suc (suc (suc (suc (suc (suc (suc (suc (suc c))))))))) l e = a
 
 -- the readings of cell 0 run far enough on both sides
 enough-hides : (side : Side) → Hidden sheetA (withheld sheetA enough) 0 side
-enough-hides Up = (highestA, reading-more gridA withheldA (withheld sheetA enough) figuresA highestA enough-withholds (runs-from-0-to-220 .highest), lit≤ tt)
-enough-hides Down = (lowestA, reading-more gridA withheldA (withheld sheetA enough) figuresA lowestA enough-withholds (runs-from-0-to-220 .lowest), lit≤ tt)
+enough-hides Up = (highestA, record { reading = reading-more gridA withheldA (withheld sheetA enough) figuresA highestA enough-withholds (runs-from-0-to-220 .highest); away = lit≤ tt })
+enough-hides Down = (lowestA, record { reading = reading-more gridA withheldA (withheld sheetA enough) figuresA lowestA enough-withholds (runs-from-0-to-220 .lowest); away = lit≤ tt })
 
 enough-audit : audit sheetA (withheld sheetA enough) ≡ None
 enough-audit =

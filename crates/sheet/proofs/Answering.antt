@@ -1,6 +1,8 @@
 -- Answers and the reasons for them.
 use mathlib.Core.Path.{_≡_, refl, sym, _∙_, ap}
-use mathlib.Core.Logic.{_⊎_}
+use mathlib.Core.List.{List}
+use Prim.Native.Nat.{ℕ}
+use native.Mathlib.Omega.{arith}
 use Rattle.std.specs.declared.option.Option.{Option}
 use Rattle.std.specs.declared.option.Option.the-variants.{Some, None}
 use Rattle.std.specs.declared.result.Result.{Result}
@@ -8,7 +10,7 @@ use Rattle.std.specs.declared.result.Result.the-variants.{Ok, Err}
 use Rattle.std.specs.Results.{isOk}
 use Rattle.std.proofs.shelf.Tests.{true≢false, false≢true}
 use Rattle.refusals.specs.declared.Refusal.{Refusal}
-use Rattle.runs.specs.Acts.{Act, Answer, refused, Right}
+use Rattle.runs.specs.Acts.{Act, Answer, refused, count, page, table, Right}
 use Rattle.sheet.specs.declared.held.Sheet.{Sheet}
 use Rattle.sheet.specs.Sheets.{figures-of, stands, Acted, answered}
 
@@ -25,3 +27,10 @@ no-reason None e = refl
 -- a call that is refused, and leaves the sheet as it was, has acted
 pub acted-refused : (s : Sheet) (act : Act) (r : Refusal) → Right (figures-of s) (stands s) act (refused r) → Acted s act (refused r) s
 acted-refused s act r e = record { does = record { right = e; leaves = refl }; same-network = refl; same-figures = refl; same-rows = λ _ _. refl }
+
+-- what is accepted is not refused
+pub count-never : (n : ℕ) (r : Refusal) → count n ≡ refused r → ⊥
+count-never n r e = let z : _≡_ {A = ℕ} 0 1 = cc in omega arith
+
+pub page-never : (p : List ℕ) (r : Refusal) → page p ≡ refused r → ⊥
+page-never p r e = let z : _≡_ {A = ℕ} 0 1 = cc in omega arith

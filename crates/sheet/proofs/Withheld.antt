@@ -23,6 +23,7 @@ use Rattle.sheet.specs.Cells.{goes-with}
 use Rattle.sheet.specs.Events.{next-mark}
 use Rattle.sheet.specs.Standing.{isComplement, isPrinted, standing-of}
 use Rattle.sheet.specs.Sheets.{rows-of, figures-of, stands, Met, Acted, listing, answered, counted}
+use Rattle.sheet.proofs.Answering.{count-never}
 use Rattle.sheet.proofs.Begun.{mark-past}
 use Rattle.sheet.proofs.Entries.{listed-good, entries-accepted}
 use Rattle.sheet.proofs.Facts.{rows-long, tied-at}
@@ -48,9 +49,6 @@ listed-printed Complement true = refl
 listed-printed Complement false = refl
 listed-printed Printed a = refl
 listed-printed Barred a = refl
-
-count-never : (n : ℕ) (r : Refusal) → count n ≡ refused r → ⊥
-count-never n r e = let z : _≡_ {A = ℕ} 0 1 = cc in omega arith
 
 module _ (before after : Sheet) (l : List ℕ) (good : refusal (figures-of before) (stands before) (withhold l) ≡ None) (met : Met before (listing l) after) where
   same-cells : figures-of after .shape .cells ≡ figures-of before .shape .cells

@@ -3,3 +3,4 @@ pub mod Events
 pub mod Cells
 pub mod Records
 pub mod Sheets
+pub mod Trying

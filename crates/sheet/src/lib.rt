@@ -6,7 +6,9 @@ mod inner;
 mod looking;
 mod making;
 mod meeting;
+mod searching;
 mod table;
+mod trying;
 mod withholding;
 
 pub use held::Sheet;

@@ -6,10 +6,11 @@ use mathlib.Core.Logic.{inl, inr, ⊎-elim}
 use Prim.Native.Nat.{ℕ, zero, suc, _+_, _*_, _^_, _≤_, _<_}
 use native.Mathlib.Omega.{arith}
 use lib.Dec.{eqb, ltb, leb}
+use lib.ListN.{length, getD}
 use Rattle.std.specs.declared.option.Option.{Option}
 use Rattle.std.specs.declared.option.Option.the-variants.{Some, None}
 use Rattle.std.specs.Options.{isSome}
-use Rattle.std.proofs.shelf.Tests.{cases-lt, le-ltb, le-leb, lt-leb, cond-true, leb-false, leb-true, ltb-true, cases-bool, cond-false, eqb-true}
+use Rattle.std.proofs.shelf.Tests.{cases-lt, le-ltb, le-leb, lt-leb, cond-true, leb-false, leb-true, ltb-true, cases-bool, cond-false, and-left, or-from, ne-eqb}
 use Rattle.refusals.specs.declared.Side.{Side}
 use Rattle.refusals.specs.declared.Side.the-variants.{Up, Down}
 use Rattle.refusals.specs.declared.Refusal.{Refusal}
@@ -19,11 +20,15 @@ use Rattle.sums.specs.Sums.{sum-below, count-below, among}
 use Rattle.sums.proofs.SumBelow.{sum-same, count-same}
 use Rattle.layouts.specs.Shape.{Shape, Same}
 use Rattle.page.specs.Page.{page as bytes}
-use Rattle.readings.specs.Balance.{Balanced, entering-sum, leaving-sum}
+use Rattle.readings.specs.Balance.{Balanced, Sound}
 use Rattle.readings.specs.Readings.{Reading}
 use Rattle.readings.specs.Exposure.{Figures, behind, ahead, besides, raised-out, lowered-out, any-below, any-set, wall?, exposed?, sensitive, told?, exposedAt, or-else, first-from, audit}
 use Rattle.runs.specs.Acts.{Act, withhold, seek, print, witness, Answer, refused, count, page, table, Standing, fresh, opened, exposure, withheld, bare, shown, pageOf, newly, closed, reopened, reopen, searched, badEntry, refusal, accepted, step, complements, added, Away, Witnesses, unless, WitnessAnswer, Right}
 use Rattle.runs.specs.Runs.{History, standing, Run}
+use Rattle.runs.specs.Pairs.{Settled}
+
+none-is-some : {A : Type 0} {x : A} → _≡_ {A = Option A} None (Some x) → ⊥
+none-is-some e = let z : _≡_ {A = ℕ} 0 1 = cc in omega arith
 
 -- ANY, FIRST, EVERY SET
 any-below-same : (n : ℕ) (p q : ℕ → Bool) → ((c : ℕ) → c < n → p c ≡ q c) → any-below n p ≡ any-below n q
@@ -81,9 +86,6 @@ pub record Alike (F G : Figures) : Type 0 where
   pub need : (c : ℕ) → c < F .shape .cells → G .need c ≡ F .need c
 
 module _ (F G : Figures) (like : Alike F G) where
-  n : ℕ
-  n = F .shape .cells
-
   cells : G .shape .cells ≡ F .shape .cells
   cells = like .shape .cells
 
@@ -147,7 +149,7 @@ module _ (F G : Figures) (like : Alike F G) where
       λ i. cond (leb (cells i) c) (Some (UnknownCell c)) (cond (st .printed c) (Some (AlreadyPrinted c)) (badEntry-same st cs i))
 
   refusal-same : (st : Standing) (act : Act) → refusal G st act ≡ refusal F st act
-  refusal-same st (withhold cs) = λ i. cond (ltb 512 (lib.ListN.length cs)) (Some MemorySize) (badEntry-same st cs i)
+  refusal-same st (withhold cs) = λ i. cond (ltb 512 (length cs)) (Some MemorySize) (badEntry-same st cs i)
   refusal-same st seek = refl
   refusal-same st (print memory) =
       λ i. cond (ltb memory (19 * cells i)) (Some MemorySize) (exposure (audit-same (withheld F st) (withheld G st) (withheld-same st) i))
@@ -159,3 +161,110 @@ module _ (F G : Figures) (like : Alike F G) where
               (cond (e i) (Some (Exposed c (sideOf side))) None))))
       (λ l. cond-true (leb (G .shape .cells) c) _ _ (le-leb (G .shape .cells) c (omega (arith, cells))) ∙ sym (cond-true (leb (F .shape .cells) c) _ _ (le-leb (F .shape .cells) c l)))
       (cases-lt c (F .shape .cells))
+
+  -- WHAT AN ACCEPTED ACT LEAVES
+  -- a list that can be withheld names cells only
+  none-beyond : (st : Standing) (cs : List ℕ) → badEntry F st cs ≡ None → (c : ℕ) → F .shape .cells ≤ c → among c cs ≡ false
+  none-beyond st [] e c l = refl
+  none-beyond st (a ∷ cs) e c l = ⊎-elim
+      (λ b. absurd (none-is-some (sym e ∙ cond-true (leb (F .shape .cells) a) (Some (UnknownCell a)) _ b)))
+      (λ b. let f = sym (cond-false (leb (F .shape .cells) a) (Some (UnknownCell a)) _ b) ∙ e in
+          ⊎-elim
+          (λ p. absurd (none-is-some (sym f ∙ cond-true (st .printed a) (Some (AlreadyPrinted a)) _ p)))
+          (λ p. let g = sym (cond-false (st .printed a) (Some (AlreadyPrinted a)) _ p) ∙ f in
+              or-from (eqb c a) (among c cs) (ne-eqb c a (λ q. omega (arith, leb-false (F .shape .cells) a b))) (none-beyond st cs g c l))
+          (cases-bool (st .printed a)))
+      (cases-bool (leb (F .shape .cells) a))
+
+  listed-below : (cs : List ℕ) (c : ℕ) → c < F .shape .cells → (among c cs && not (sensitive (G .need) c)) ≡ (among c cs && not (sensitive (F .need) c))
+  listed-below cs c l = λ i. among c cs && not (ltb 0 (like .need c l i))
+
+  withhold-same : (st : Standing) (cs : List ℕ) → refusal F st (withhold cs) ≡ None → accepted G st (withhold cs) ≡ accepted F st (withhold cs)
+  withhold-same st cs e = λ i. record { complement = fun-ext at i; printed = st .printed }
+    where
+      good : badEntry F st cs ≡ None
+      good = ⊎-elim
+          (λ b. absurd (none-is-some (sym e ∙ cond-true (ltb 512 (length cs)) (Some MemorySize) _ b)))
+          (λ b. sym (cond-false (ltb 512 (length cs)) (Some MemorySize) _ b) ∙ e)
+          (cases-bool (ltb 512 (length cs)))
+
+      at : (c : ℕ) → (among c cs && not (sensitive (G .need) c)) ≡ (among c cs && not (sensitive (F .need) c))
+      at c = ⊎-elim
+          (listed-below cs c)
+          (λ l. and-left (among c cs) _ (none-beyond st cs good c l) ∙ sym (and-left (among c cs) _ (none-beyond st cs good c l)))
+          (cases-lt c (F .shape .cells))
+
+  -- an answer that is no refusal comes where nothing is to be refused
+  granted : (o : Option Refusal) (x a : Answer) → a ≡ unless o x → ((r : Refusal) → a ≡ refused r → ⊥) → o ≡ None
+  granted None x a e no-refusal = refl
+  granted (Some r) x a e no-refusal = absurd (no-refusal r e)
+
+  accepted-same : (st : Standing) (act : Act) (a : Answer) → ((r : Refusal) → a ≡ refused r → ⊥) → Right F st act a → accepted G st act ≡ accepted F st act
+  accepted-same st (withhold cs) a no-refusal right = withhold-same st cs (granted (refusal F st (withhold cs)) _ a right no-refusal)
+  accepted-same st seek a no-refusal right = searched-same st
+  accepted-same st (print memory) a no-refusal right = λ i. record { complement = st .complement; printed = λ c. st .printed c || bare-same st c i }
+  accepted-same st (witness c side memory) a no-refusal right = refl
+
+  step-same : (st : Standing) (act : Act) (a : Answer) → Right F st act a → step G st act a ≡ step F st act a
+  step-same st act (refused r) right = refl
+  step-same st act (count k) right = accepted-same st act (count k) (λ r e. let z : _≡_ {A = ℕ} 0 1 = cc in omega arith) right
+  step-same st act (page p) right = accepted-same st act (page p) (λ r e. let z : _≡_ {A = ℕ} 0 1 = cc in omega arith) right
+  step-same st act (table t) right = accepted-same st act (table t) (λ r e. let z : _≡_ {A = ℕ} 0 1 = cc in omega arith) right
+
+  -- RIGHT ANSWERS
+  away-same : (side : Side) (c : ℕ) → c < F .shape .cells → (t : ℕ → ℕ) → Away G side c t → Away F side c t
+  away-same Up c l t far = omega (arith, like .figure c l, like .need c l)
+  away-same Down c l t far = omega (arith, like .figure c l, like .need c l)
+
+  witnesses-same : (st : Standing) (c : ℕ) (side : Side) (ts : List ℕ) → c < F .shape .cells → Witnesses G st c side ts → Witnesses F st c side ts
+  witnesses-same st c side ts l w = record {
+    each = w .each ∙ cells;
+    reading = record {
+      balanced = balanced-same (F .shape) (G .shape) (like .shape) (λ x. getD ts x 0) (λ x. getD ts x 0) (λ _ _. refl) (w .reading .balanced);
+      true-figures = λ x h e. w .reading .true-figures x (omega (arith, cells)) (withheld-same st x h ∙ e) ∙ like .figure x h;
+    };
+    far = away-same side c l (λ x. getD ts x 0) (w .far);
+  }
+
+  -- a witness that is not refused is asked for a cell
+  witness-inside : (st : Standing) (c side memory : ℕ) → refusal F st (witness c side memory) ≡ None → c < F .shape .cells
+  witness-inside st c side memory e = ⊎-elim
+      (λ l. l)
+      (λ l. absurd (none-is-some (sym e ∙ cond-true (leb (F .shape .cells) c) (Some (UnknownCell c)) _ (le-leb (F .shape .cells) c l))))
+      (cases-lt c (F .shape .cells))
+
+  right-same : (st : Standing) (act : Act) (a : Answer) → Right G st act a → Right F st act a
+  right-same st (withhold cs) a right =
+      let counts : complements G (accepted G st (withhold cs)) ≡ complements F (accepted F st (withhold cs)) =
+          ap (λ m. count-below m (accepted G st (withhold cs) .complement)) cells
+          ∙ count-same (F .shape .cells) (accepted G st (withhold cs) .complement) (accepted F st (withhold cs) .complement) (listed-below cs) in
+      right ∙ (λ i. unless (refusal-same st (withhold cs) i) (count (counts i)))
+  right-same st seek a right = right ∙ (λ i. count (count-below (cells i) (λ c. searched-same st i .complement c && not (st .complement c))))
+  right-same st (print memory) a right = right ∙ (λ i. unless (refusal-same st (print memory) i) (page (bytes (cells i) (fun-ext (shown-same st) i))))
+  right-same st (witness c side memory) a right =
+      go (refusal F st (witness c side memory)) refl (subst (λ o. WitnessAnswer o (Witnesses G st c (sideOf side)) a) (refusal-same st (witness c side memory)) right)
+    where
+      go : (o : Option Refusal) → refusal F st (witness c side memory) ≡ o → WitnessAnswer o (Witnesses G st c (sideOf side)) a → WitnessAnswer o (Witnesses F st c (sideOf side)) a
+      go (Some r) e w = w
+      go None e (ts, w, is) = (ts, witnesses-same st c (sideOf side) ts (witness-inside st c side memory e) w, is)
+
+  -- RUNS
+  runs-same : (h : History) → Run G h → Run F h × (standing G h ≡ standing F h)
+  runs-same [] run = (tt, refl)
+  runs-same (e ∷ h) run =
+      let before = runs-same h (run .0) in
+      let right : Right F (standing F h) (e .0) (e .1) = right-same (standing F h) (e .0) (e .1) (subst (λ st. Right G st (e .0) (e .1)) (before .1) (run .1)) in
+      ( (before .0, right)
+      , ap (λ st. step G st (e .0) (e .1)) (before .1) ∙ step-same (standing F h) (e .0) (e .1) right )
+
+  pub run-same : (h : History) → Run G h → Run F h
+  run-same h run = runs-same h run .0
+
+  pub settled-same : Sound (F .shape) → Settled G → Settled F
+  settled-same sound ok = record {
+    sound = sound;
+    few = omega (arith, cells, ok .few);
+    balanced = balanced-same (F .shape) (G .shape) (like .shape) (G .figure) (F .figure) (like .figure) (ok .balanced);
+    within = λ c l. omega (arith, like .need c l, like .figure c l, ok .within c (omega (arith, cells)));
+    small = λ c l. subst (λ v. v < 10 ^ 13) (like .figure c l) (ok .small c (omega (arith, cells)));
+  }

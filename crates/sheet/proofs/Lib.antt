@@ -8,3 +8,6 @@ pub mod Entries
 pub mod Withheld
 pub mod Halfway
 pub mod Tries
+pub mod Stood
+pub mod Shown
+pub mod Borne

@@ -22,7 +22,8 @@ use Rattle.sheet.specs.declared.events.Event.the-variants.{Listed, Unlisted}
 use Rattle.sheet.specs.Cells.{goes-with}
 use Rattle.sheet.specs.Events.{next-mark}
 use Rattle.sheet.specs.Standing.{isComplement, isPrinted, standing-of}
-use Rattle.sheet.specs.Sheets.{rows-of, figures-of, stands, Met, Acted, listing, answered, counted}
+use Rattle.sheet.specs.Calls.{answered, counted}
+use Rattle.sheet.specs.Sheets.{rows-of, figures-of, stands, Met, Acted, listing}
 use Rattle.sheet.proofs.Answering.{count-never}
 use Rattle.sheet.proofs.Begun.{mark-past}
 use Rattle.sheet.proofs.Entries.{listed-good, entries-accepted}

@@ -4,3 +4,4 @@ pub mod Cells
 pub mod Records
 pub mod Sheets
 pub mod Trying
+pub mod Calls

@@ -36,15 +36,6 @@ figures-of s = looked-at (shapeOf (s .network)) (rows-of s)
 abbrev pub stands : Sheet → Standing
 stands s = standing-of (rows-of s)
 
--- what a call answers that is refused for this reason, or for none
-abbrev pub answered : {X : Type 0} → Option Refusal → X → Result X Refusal
-answered (Some r) x = Err r
-answered None x = Ok x
-
--- how a cell is looked at
-abbrev pub looked : Sheet → ℕ → Result Row Refusal
-looked s c = cond (leb (figures-of s .shape .cells) c) (Err (UnknownCell c)) (Ok (row-at (rows-of s) c))
-
 -- A call gives the right answer to its act and leaves the standing that goes with it; figures and needs never change; and where the
 -- act is refused, no row does.
 pub record Acted (before : Sheet) (act : Act) (a : Answer) (after : Sheet) : Type 0 where
@@ -52,11 +43,6 @@ pub record Acted (before : Sheet) (act : Act) (a : Answer) (after : Sheet) : Typ
   pub same-network : after .network ≡ before .network
   pub same-figures : figures-of after ≡ figures-of before
   pub same-rows : (r : Refusal) → a ≡ refused r → rows-of after ≡ rows-of before
-
--- the answer of a call that counts
-abbrev pub counted : Result ℕ Refusal → Answer
-counted (Ok n) = count n
-counted (Err r) = refused r
 
 -- Each cell has met the event that there is for it, and nothing but its mark has changed.
 pub record Met (before : Sheet) (event : ℕ → Event) (after : Sheet) : Type 0 where

@@ -6,9 +6,11 @@ mod inner;
 mod looking;
 mod making;
 mod meeting;
+mod printing;
 mod searching;
 mod table;
 mod trying;
 mod withholding;
+mod witnessing;
 
 pub use held::Sheet;

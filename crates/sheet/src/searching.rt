@@ -9,8 +9,9 @@ ghost use Rattle.layouts.specs.Blank.{isOpen};
 ghost use Rattle.readings.specs.Exposure.{audit};
 ghost use Rattle.readings.specs.Paths.{withheld-by};
 ghost use Rattle.readings.specs.Rows.{needs};
-ghost use Rattle.runs.specs.Acts.{added, count, seek};
-ghost use Rattle.sheet.specs.Sheets.{Acted, figures-of, rows-of, stands};
+ghost use Rattle.runs.specs.Acts.{count, seek};
+ghost use Rattle.sheet.specs.Calls.{search-answer};
+ghost use Rattle.sheet.specs.Sheets.{Acted, figures-of, rows-of};
 ghost use Rattle.sheet.specs.Trying.{Tried};
 use crate::events::Event;
 use crate::held::Sheet;
@@ -47,7 +48,7 @@ impl Sheet {
     // Withholds every open cell, and then goes from the highest number down and opens each of them again, if no sensitive cell is
     // thereby exposed. Answers how many stay withheld.
     pub fn search(&mut self) -> usize
-        ensures answer { λ r. ⌜ r ≡ added (figures-of (now (self .entry))) (stands (now (self .entry))) ⌝ }
+        ensures answer { λ r. ⌜ r ≡ search-answer (now (self .entry)) ⌝ }
         ensures acted { λ r. ⌜ Acted (now (self .entry)) seek (count r) (now (self .exit)) ⌝ }
     {
         self.set_bytes(WITHHELD);

@@ -2,8 +2,9 @@
 ghost use mathlib.Core.Bool.{false};
 ghost use mathlib.Core.Path.{_≡_};
 ghost use Rattle.std.specs.Results.{isOk};
-ghost use Rattle.runs.specs.Acts.{accepted, complements, refusal, withhold};
-ghost use Rattle.sheet.specs.Sheets.{Acted, Met, answered, counted, figures-of, listing, stands};
+ghost use Rattle.runs.specs.Acts.{withhold};
+ghost use Rattle.sheet.specs.Calls.{answered, counted, refusal-of, withhold-answer};
+ghost use Rattle.sheet.specs.Sheets.{Acted, Met, listing};
 use crate::events::Event;
 use crate::held::Sheet;
 use crate::inner::is_printed;
@@ -23,7 +24,7 @@ fn event_of(cells: &[usize], cell: usize) -> Event
 impl Sheet {
     // Whether the list can be withheld, entry by entry.
     fn check_entries(&self, cells: &[usize]) -> Result<(), Refusal>
-        ensures { λ r. ⌜ r ≡ answered (refusal (figures-of (now (self .entry))) (stands (now (self .entry))) (withhold (now (cells .entry)))) tt ⌝ }
+        ensures { λ r. ⌜ r ≡ answered (refusal-of (now (self .entry)) (withhold (now (cells .entry)))) tt ⌝ }
     {
         if cells.len() > ENTRIES {
             return Err(Refusal::MemorySize);
@@ -51,7 +52,7 @@ impl Sheet {
     // Makes complements of exactly the listed cells that are not sensitive, and answers how many they are. The whole list is checked
     // before any mark moves.
     pub fn withhold(&mut self, cells: &[usize]) -> Result<usize, Refusal>
-        ensures answer { λ r. ⌜ r ≡ answered (refusal (figures-of (now (self .entry))) (stands (now (self .entry))) (withhold (now (cells .entry)))) (complements (figures-of (now (self .entry))) (accepted (figures-of (now (self .entry))) (stands (now (self .entry))) (withhold (now (cells .entry))))) ⌝ }
+        ensures answer { λ r. ⌜ r ≡ withhold-answer (now (self .entry)) (now (cells .entry)) ⌝ }
         ensures acted { λ r. ⌜ Acted (now (self .entry)) (withhold (now (cells .entry))) (counted r) (now (self .exit)) ⌝ }
         ensures unchanged { λ r. ⌜ (isOk r ≡ false → now (self .exit) ≡ now (self .entry)) ⌝ }
     {

@@ -6,7 +6,8 @@ use lib.ListN.{length, getD}
 use Rattle.layouts.specs.declared.memory.Row.{Row}
 use Rattle.readings.specs.Exposure.{Figures}
 use Rattle.runs.specs.Acts.{Standing}
-use Rattle.sheet.specs.Sheets.{figures-of, stands, rows-of, answered}
+use Rattle.sheet.specs.Calls.{answered}
+use Rattle.sheet.specs.Sheets.{figures-of, stands, rows-of}
 use Rattle.sheet.specs.Standing.{isPrinted}
 use Rattle.sheet.proofs.Entries.{list-short, list-long, entry-unknown, entry-printed, entry-more, entries-all}
 use Rattle.sheet.proofs.Marking.{mark-of}

@@ -7,7 +7,8 @@ use Rattle.std.proofs.shelf.Results.{err-from-errBy}
 use Rattle.std.proofs.shelf.Tests.{true≢false}
 use Rattle.refusals.specs.declared.Refusal.{Refusal}
 use Rattle.runs.specs.Acts.{withhold, refusal, accepted, complements, count, unless}
-use Rattle.sheet.specs.Sheets.{figures-of, stands, answered}
+use Rattle.sheet.specs.Calls.{answered}
+use Rattle.sheet.specs.Sheets.{figures-of, stands}
 use Rattle.sheet.proofs.Answering.{reason, no-reason, acted-refused}
 use Rattle.sheet.proofs.Withheld.{counts-withheld, acted-withheld}
 use Rattle.sheet.proofs.held.Sheet.withhold.Needs as need
@@ -22,7 +23,7 @@ returns-in-Break-check-entries c =
     rw (p .1, p .2)
     record
     { answer = sym (ap (λ (o : Option Refusal). answered o n) why)
-    ; acted = acted-refused s (withhold l) _ (sym (ap (λ (o : Option Refusal). unless o (count n)) why))
+    ; acted = acted-refused s s (withhold l) _ (record { same-network = refl; same-rows = refl }) (sym (ap (λ (o : Option Refusal). unless o (count n)) why))
     ; unchanged = λ _. refl
     }
 

@@ -1,3 +1,4 @@
 pub mod Alike
 pub mod Taking
 pub mod Ways
+pub mod Turns

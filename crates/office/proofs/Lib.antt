@@ -1,0 +1,4 @@
+pub mod Alike
+pub mod Taking
+pub mod Ways
+pub mod Turns

@@ -1,36 +1,51 @@
 // From the input to the page.
 ghost use mathlib.Core.Path.{_≡_};
-ghost use lib.ListN.{length, replicate};
-ghost use Prim.Native.Nat.{_*_, _≤_};
 ghost use Rattle.std.specs.Of.Vec.{vec-items};
 ghost use Rattle.std.specs.Results.{Cases};
-ghost use Rattle.std.specs.Vec.{made};
-ghost use Rattle.job.specs.Job.{Refused};
-ghost use Rattle.job.specs.Printed.{Printed};
-use crate::preparing::prepare;
+ghost use Rattle.job.specs.Chosen.{shape-of};
+ghost use Rattle.job.specs.Job.{Printed, Refused, too-large, unless-refused};
+use crate::choosing::make_layout;
+use crate::choosing::make_rule;
+use crate::chosen_layout::ChosenLayout;
+use crate::chosen_layout::ChosenLayoutLayout;
+use crate::chosen_rule::ChosenRuleRule;
+use layouts::Layout;
+use office::acts::Act;
+use office::acts::Answer;
+use office::running::run_deposit;
 use refusals::Refusal;
-use refusals::RefusalFromAlloc;
-use sheet::Sheet;
-use std::alloc::AllocError;
+use settings::read_settings;
 use std::alloc::Global;
 
-fn page_memory(heap: Global, cells: usize) -> Result<Vec<u8>, AllocError>
-    requires { ⌜ cells ≤ 512 ⌝ }
-    ensures { λ r. ⌜ made r (λ v. vec-items v ≡ replicate (19 * cells) 0) ⌝ }
+pub const LONGEST_INPUT: usize = 40_000;
+
+// 19 bytes for each of 512 cells
+const LONGEST_PAGE: usize = 9_728;
+
+fn check_size(layout: &ChosenLayout, size: usize) -> Result<(), Refusal>
+    ensures { λ r. ⌜ r ≡ unless-refused (too-large (shape-of (now (layout .entry))) size) ⌝ }
 {
-    let mut page = Vec::new(heap);
-    page.resize(19 * cells, 0)?;
-    Ok(page)
+    if layout.cells() > 512 || layout.relations() > 128 {
+        return Err(Refusal::LayoutTooLarge);
+    }
+    if size > LONGEST_INPUT {
+        return Err(Refusal::DepositLength);
+    }
+    Ok(())
 }
 
-// Reads, loads and settles, searches from no complements, and prints the page. The search leaves nobody exposed, so that the print is never refused.
+// Reads the settings line, makes the layout and the rule, and has the office load the deposit, settle, search and print.
 pub fn suppress(heap: Global, input: &[u8]) -> Result<Vec<u8>, Refusal>
     ensures { λ r. ⌜ Cases r (λ page. Printed (now (input .entry)) (vec-items page)) (λ e. Refused (now (input .entry)) e) ⌝ }
 {
-    let settled = prepare(heap, input)?;
-    let mut page = page_memory(heap, settled.rows.len())?;
-    let mut sheet = Sheet::new(settled);
-    let _ = sheet.search();
-    let _ = sheet.print(&mut page)?;
-    Ok(page)
+    let (settings, deposit) = read_settings(input)?;
+    let layout = make_layout(settings.layout)?;
+    let rule = make_rule(settings.rule)?;
+    check_size(&layout, input.len())?;
+    let acts = [Act::Search, Act::Print { memory: LONGEST_PAGE }];
+    let mut answers = run_deposit(heap, &layout, rule, deposit, &acts)?;
+    match answers.pop() {
+        Some(Answer::Page(page)) => Ok(page),
+        _ => Err(Refusal::OutOfMemory),
+    }
 }

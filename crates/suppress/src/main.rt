@@ -1,5 +1,5 @@
 // Reads a settings line and a deposit, and writes the page of the table, or the line of its refusal.
-use job::preparing::LONGEST_INPUT;
+use job::suppressing::LONGEST_INPUT;
 use job::suppressing::suppress;
 use refusals::RefusalDisplay;
 use std::io;

@@ -1,8 +1,8 @@
 -- Figures that agree on the cells of layouts with the same answers have the same runs.
 use mathlib.Core.Path.{_≡_, refl, sym, _∙_, ap, subst, fun-ext}
-use mathlib.Core.Bool.{Bool, true, false, cond, not, _&&_, _||_}
+use mathlib.Core.Bool.{Bool, false, cond, not, _&&_, _||_}
 use mathlib.Core.List.{List, [], _∷_}
-use mathlib.Core.Logic.{inl, inr, ⊎-elim}
+use mathlib.Core.Logic.{⊎-elim}
 use Prim.Native.Nat.{ℕ, zero, suc, _+_, _*_, _^_, _≤_, _<_}
 use native.Mathlib.Omega.{arith}
 use lib.Dec.{eqb, ltb, leb}
@@ -10,7 +10,7 @@ use lib.ListN.{length, getD}
 use Rattle.std.specs.declared.option.Option.{Option}
 use Rattle.std.specs.declared.option.Option.the-variants.{Some, None}
 use Rattle.std.specs.Options.{isSome}
-use Rattle.std.proofs.shelf.Tests.{cases-lt, le-ltb, le-leb, lt-leb, cond-true, leb-false, leb-true, ltb-true, cases-bool, cond-false, and-left, or-from, ne-eqb}
+use Rattle.std.proofs.shelf.Tests.{cases-lt, le-ltb, le-leb, cond-true, leb-false, cases-bool, cond-false, and-left, or-from, ne-eqb}
 use Rattle.refusals.specs.declared.Side.{Side}
 use Rattle.refusals.specs.declared.Side.the-variants.{Up, Down}
 use Rattle.refusals.specs.declared.Refusal.{Refusal}
@@ -21,9 +21,8 @@ use Rattle.sums.proofs.SumBelow.{sum-same, count-same}
 use Rattle.layouts.specs.Shape.{Shape, Same}
 use Rattle.page.specs.Page.{page as bytes}
 use Rattle.readings.specs.Balance.{Balanced, Sound}
-use Rattle.readings.specs.Readings.{Reading}
 use Rattle.readings.specs.Exposure.{Figures, behind, ahead, besides, raised-out, lowered-out, any-below, any-set, wall?, exposed?, sensitive, told?, exposedAt, or-else, first-from, audit}
-use Rattle.runs.specs.Acts.{Act, withhold, seek, print, witness, Answer, refused, count, page, table, Standing, fresh, opened, exposure, withheld, bare, shown, pageOf, newly, closed, reopened, reopen, searched, badEntry, refusal, accepted, step, complements, added, Away, Witnesses, unless, WitnessAnswer, Right}
+use Rattle.runs.specs.Acts.{Act, withhold, seek, print, witness, Answer, refused, count, page, table, Standing, opened, exposure, withheld, bare, shown, newly, closed, reopened, reopen, searched, badEntry, refusal, accepted, step, complements, Away, Witnesses, unless, WitnessAnswer, Right}
 use Rattle.runs.specs.Runs.{History, standing, Run}
 use Rattle.runs.specs.Pairs.{Settled}
 

@@ -1,5 +1,5 @@
 -- A layout and its copy take in the same contributions, and these give the cells the same figures and needs.
-use mathlib.Core.Path.{_≡_, refl, sym, _∙_, ap, fun-ext}
+use mathlib.Core.Path.{_≡_, refl, sym, _∙_, ap}
 use mathlib.Core.Bool.{Bool, true, false, cond, not, _&&_}
 use mathlib.Core.List.{List, [], _∷_, _++_}
 use mathlib.Core.Logic.{⊎-elim}
@@ -13,13 +13,13 @@ use Rattle.std.specs.shelf.Lists.{sum}
 use Rattle.std.proofs.shelf.Tests.{cases-lt, le-leb, cond-true}
 use Rattle.refusals.specs.declared.Refusal.{Refusal}
 use Rattle.refusals.specs.declared.Refusal.the-variants.{UnknownCell, NotALeaf, AmountTooLarge, TooManyContributions, LinkTooLarge, RecordReached}
-use Rattle.layouts.specs.Shape.{Shape, Laws, Same, isLeaf}
+use Rattle.layouts.specs.Shape.{Shape, Laws, Same}
 use Rattle.layouts.specs.declared.memory.Contribution.{Contribution}
 use Rattle.layouts.specs.declared.memory.Row.{Row}
 use Rattle.layouts.proofs.Kept.{leaf-below, leaf-is, same-isLeaf, same-laws}
 use Rattle.rules.specs.Telling.{and-then}
 use Rattle.readings.specs.Rows.{looked-at}
-use Rattle.intake.specs.Contributions.{amounts-under, figure-of, need-of}
+use Rattle.intake.specs.Contributions.{amounts-under}
 use Rattle.intake.specs.Entering.{enter-answer}
 use Rattle.intake.specs.Deposit.{contribution, next, head, unseen, after-these, chain, walk, counted, and-read, deposited}
 use Rattle.intake.specs.Settling.{settled-rows}

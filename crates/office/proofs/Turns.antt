@@ -1,18 +1,16 @@
 -- One contribution after another; what an office then has taken in; and acts whose memory is cut to what they can use.
 use mathlib.Core.Path.{_≡_, refl, sym, _∙_, ap, subst}
-use mathlib.Core.Bool.{Bool, true, false, cond, not}
+use mathlib.Core.Bool.{true, cond, not}
 use mathlib.Core.List.{List, [], _∷_, _++_}
 use mathlib.Core.Logic.{inl, ⊎-elim}
-use Prim.Native.Nat.{ℕ, suc, _+_, _*_, _≤_, _<_, min}
+use Prim.Native.Nat.{ℕ, _+_, _*_, _≤_, _<_, min}
 use native.Mathlib.Numerals.{add-one}
 use native.Mathlib.Omega.{arith}
 use lib.Dec.{ltb, leb}
 use lib.ListN.{length, getD, drop}
 use lib.Seq.{drop-cons}
-use Rattle.std.specs.Of.Vec.{vec-items, vec-len}
 use Rattle.std.specs.declared.result.Result.{Result}
 use Rattle.std.specs.declared.result.Result.the-variants.{Ok, Err}
-use Rattle.std.specs.declared.option.Option.{Option}
 use Rattle.std.specs.declared.option.Option.the-variants.{Some, None}
 use Rattle.std.specs.shelf.Lists.{sum}
 use Rattle.std.proofs.shelf.Tests.{cases-lt, cond-true, lt-ltb, le-ltb}
@@ -31,8 +29,7 @@ use Rattle.intake.specs.Entering.{enter-answer}
 use Rattle.intake.specs.Deposit.{deposited, load-answer, held-then}
 use Rattle.intake.specs.Settling.{settled-rows}
 use Rattle.intake.proofs.Figures.{At-leaves}
-use Rattle.runs.specs.Acts.{Act, print, witness, Answer, refused, count, page, table, Standing, step, exposure, withheld, pageOf, refusal, unless, WitnessAnswer, Witnesses, Right}
-use Rattle.runs.specs.Runs.{Does}
+use Rattle.runs.specs.Acts.{Act, print, witness, Answer, refused, count, page, table, Standing, step, exposure, withheld, pageOf, refusal, unless, WitnessAnswer, Witnesses}
 use Rattle.sheet.specs.declared.held.Sheet.{Sheet}
 use Rattle.sheet.specs.Sheets.{Acted, figures-of, rows-of, stands}
 use Rattle.sheet.proofs.Facts.{cells-few}

@@ -1,17 +1,15 @@
 -- One act more in a history, what a sheet has settled, and from the sheet's own run to the run of the layout.
-use mathlib.Core.Path.{_≡_, refl, sym, _∙_, ap, subst, subst₂}
+use mathlib.Core.Path.{_≡_, refl, sym, _∙_, ap, subst}
 use mathlib.Core.List.{List, [], _∷_, _++_}
-use Prim.Native.Nat.{ℕ, suc, _+_, _^_, _≤_, _<_}
+use Prim.Native.Nat.{ℕ, _+_, _^_, _≤_, _<_}
 use native.Mathlib.Omega.{arith}
 use lib.ListN.{length, getD, take, length-append}
-use lib.Dec.{lit<}
 use Rattle.std.proofs.shelf.Lists.{take-all, take-more, length-take-le}
-use Rattle.layouts.specs.Shape.{Shape, Laws}
-use Rattle.layouts.specs.Admission.{shapeOf}
+use Rattle.layouts.specs.Shape.{Laws}
 use Rattle.layouts.proofs.Kept.{network-laws}
 use Rattle.readings.specs.Exposure.{Figures}
 use Rattle.readings.specs.Rows.{figures}
-use Rattle.runs.specs.Acts.{Standing, fresh}
+use Rattle.runs.specs.Acts.{fresh}
 use Rattle.runs.specs.Runs.{History, Run, Does, Came}
 use Rattle.runs.specs.Pairs.{Settled}
 use Rattle.runs.proofs.Calls.{calls-run}

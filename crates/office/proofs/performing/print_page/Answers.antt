@@ -1,10 +1,9 @@
 -- A page is the same in more memory than the longest page wants.
-use mathlib.Core.Path.{_≡_, sym, ap, subst, _∙_}
+use mathlib.Core.Path.{sym, ap, subst, _∙_}
 use lib.ListN.{length, take}
-use Rattle.std.specs.Of.Vec.{vec-items}
 use Rattle.std.proofs.shelf.Lists.{take-at}
 use Rattle.std.proofs.shelf.Tests.{true≢false}
-use Rattle.runs.specs.Acts.{print, page, refused}
+use Rattle.runs.specs.Acts.{print, page}
 use Rattle.sheet.specs.Sheets.{Acted}
 use Rattle.office.proofs.Turns.{printed-in}
 use Rattle.office.proofs.performing.print_page.Needs as need

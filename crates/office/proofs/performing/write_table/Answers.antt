@@ -1,7 +1,6 @@
 -- A witness is the same in more memory than the most cells want.
-use mathlib.Core.Path.{_≡_, sym, ap, subst, _∙_}
+use mathlib.Core.Path.{sym, ap, subst, _∙_}
 use lib.ListN.{length, take}
-use Rattle.std.specs.Of.Vec.{vec-items}
 use Rattle.std.proofs.shelf.Lists.{take-at}
 use Rattle.std.proofs.shelf.Tests.{true≢false}
 use Rattle.runs.specs.Acts.{witness, table}

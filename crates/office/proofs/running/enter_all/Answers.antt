@@ -1,7 +1,6 @@
 -- One contribution after another, up to the first refusal.
-use mathlib.Core.Path.{_≡_, sym, ap, _∙_}
+use mathlib.Core.Path.{sym, ap, _∙_}
 use Rattle.std.specs.declared.result.Result.the-variants.{Err}
-use Rattle.std.specs.Of.Vec.{vec-items}
 use Rattle.std.proofs.shelf.Results.{err-from-errBy}
 use Rattle.layouts.specs.Admission.{shapeOf}
 use Rattle.office.proofs.Turns.{entering-turn, entering-stops, entering-ends}

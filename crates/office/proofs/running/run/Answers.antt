@@ -1,5 +1,5 @@
 -- What was entered at the copy is what the layout takes in.
-use mathlib.Core.Path.{_≡_, refl, sym, ap, _∙_}
+use mathlib.Core.Path.{refl, ap, _∙_}
 use Rattle.std.specs.Of.Vec.{vec-items}
 use Rattle.std.proofs.shelf.Results.{cases-weaker, err-from-errBy}
 use Rattle.intake.specs.Chains.{held}

@@ -16,7 +16,7 @@ use rules::p_percent::PPercent;
 use settings::LayoutSetting;
 use settings::RuleSetting;
 
-pub(crate) fn make_layout(setting: LayoutSetting) -> Result<ChosenLayout, Refusal>
+pub fn make_layout(setting: LayoutSetting) -> Result<ChosenLayout, Refusal>
     ensures { λ r. ⌜ Cases r (λ l. (layout-range setting ≡ true) × (shape-of l ≡ shape-asked setting)) (λ e. (layout-range setting ≡ false) × (e ≡ LayoutSize)) ⌝ }
 {
     match setting {
@@ -25,7 +25,7 @@ pub(crate) fn make_layout(setting: LayoutSetting) -> Result<ChosenLayout, Refusa
     }
 }
 
-pub(crate) fn make_rule(setting: RuleSetting) -> Result<ChosenRule, Refusal>
+pub fn make_rule(setting: RuleSetting) -> Result<ChosenRule, Refusal>
     ensures { λ r. ⌜ Cases r (λ m. (rule-range setting ≡ true) × ((xs : List ℕ) → meaning-of m xs ≡ meaning-asked setting xs)) (λ e. (rule-range setting ≡ false) × (e ≡ RuleRange)) ⌝ }
 {
     match setting {

@@ -2,6 +2,8 @@
 ghost use mathlib.Core.Path.{_≡_};
 ghost use Rattle.std.specs.Of.Vec.{vec-items};
 ghost use Rattle.std.specs.Results.{Cases};
+ghost use Rattle.refusals.specs.declared.Refusal.the-variants.{OutOfMemory};
+ghost use Rattle.office.specs.declared.acts.Answer.the-variants.{Page};
 ghost use Rattle.job.specs.Chosen.{shape-of};
 ghost use Rattle.job.specs.Job.{Printed, Refused, too-large, unless-refused};
 use crate::choosing::make_layout;
@@ -34,6 +36,16 @@ fn check_size(layout: &ChosenLayout, size: usize) -> Result<(), Refusal>
     Ok(())
 }
 
+// The page in an answer. By the law no other answer follows a search; the refusal stands for one that does.
+fn page_of(answer: Answer) -> Result<Vec<u8>, Refusal>
+    ensures { λ r. ⌜ Cases r (λ page. answer ≡ Page page) (λ e. e ≡ OutOfMemory) ⌝ }
+{
+    match answer {
+        Answer::Page(page) => Ok(page),
+        _ => Err(Refusal::OutOfMemory),
+    }
+}
+
 // Reads the settings line, makes the layout and the rule, and has the office load the deposit, settle, search and print.
 pub fn suppress(heap: Global, input: &[u8]) -> Result<Vec<u8>, Refusal>
     ensures { λ r. ⌜ Cases r (λ page. Printed (now (input .entry)) (vec-items page)) (λ e. Refused (now (input .entry)) e) ⌝ }
@@ -45,7 +57,7 @@ pub fn suppress(heap: Global, input: &[u8]) -> Result<Vec<u8>, Refusal>
     let acts = [Act::Search, Act::Print { memory: LONGEST_PAGE }];
     let mut answers = run_deposit(heap, &layout, rule, deposit, &acts)?;
     match answers.pop() {
-        Some(Answer::Page(page)) => Ok(page),
-        _ => Err(Refusal::OutOfMemory),
+        Some(answer) => page_of(answer),
+        None => Err(Refusal::OutOfMemory),
     }
 }

@@ -57,11 +57,11 @@ first-fits : (cells n : ℕ) (x : Contribution) (xs : List Contribution) → fau
 first-fits cells n x xs e =
     ⊎-elim
     (λ (l : x .leaf < cells).
-      let e1 = rw (lt-leb cells (x .leaf) l) at e in
-      ⊎-elim
-      (λ (a : 4294967295 < x .amount). absurd (never {f = TooLarge n} refl (rw (lt-ltb 4294967295 (x .amount) a) at e1)))
-      (λ (a : x .amount ≤ 4294967295). (record { leaf = l; amount = a }, rw (le-ltb 4294967295 (x .amount) a) at e1))
-      (cases-lt 4294967295 (x .amount)))
+    let e1 = rw (lt-leb cells (x .leaf) l) at e in
+    ⊎-elim
+    (λ (a : 4294967295 < x .amount). absurd (never {f = TooLarge n} refl (rw (lt-ltb 4294967295 (x .amount) a) at e1)))
+    (λ (a : x .amount ≤ 4294967295). (record { leaf = l; amount = a }, rw (le-ltb 4294967295 (x .amount) a) at e1))
+    (cases-lt 4294967295 (x .amount)))
     (λ (l : cells ≤ x .leaf). absurd (never {f = UnknownLeaf n} refl (rw (le-leb cells (x .leaf) l) at e)))
     (cases-lt (x .leaf) cells)
 

@@ -40,8 +40,7 @@ module _ (input : List ℕ) (s : Settings) (rest : List ℕ) (a : Alone ShortSet
       → fault-of cells slice ≡ None → (made bytes line out : List ℕ) → made ≡ deposit cells slice → bytes ≡ made → line ≡ settingsText s → out ≡ line ++ bytes
       → Text input s xs × (fault-of (cells-of s) xs ≡ None) × (out ≡ settingsText s ++ deposit (cells-of s) xs)
   composed-text xs l cells slice d e f made bytes line out m b i o =
-      let same : deposit cells slice ≡ deposit (cells-of s) xs = ap (λ n. deposit n slice) d ∙ ap (deposit (cells-of s)) e in
-      (
+      let same : deposit cells slice ≡ deposit (cells-of s) xs = ap (λ n. deposit n slice) d ∙ ap (deposit (cells-of s)) e in (
         text-of-lines xs l,
         sym (ap (λ n. fault-of n slice) d ∙ ap (fault-of (cells-of s)) e) ∙ f,
         o ∙ ap (λ t. t ++ bytes) i ∙ ap (λ t. settingsText s ++ t) (b ∙ m ∙ same),
@@ -63,9 +62,11 @@ module _ (input : List ℕ) (s : Settings) (rest : List ℕ) (a : Alone ShortSet
   unheld-text xs l one cells slice d i e h =
       ⊎-elim (λ m. inl m)
       (λ f.
-        let g : fault-of (cells-of s) xs ≡ Some e = sym (ap (λ n. fault-of n slice) d ∙ ap (fault-of (cells-of s)) i) ∙ f in
-        inr (unheld s xs (text-of-lines xs l) g,
-          λ t ys x.
+      let g : fault-of (cells-of s) xs ≡ Some e = sym (ap (λ n. fault-of n slice) d ∙ ap (fault-of (cells-of s)) i) ∙ f in
+      inr (
+        unheld s xs (text-of-lines xs l) g,
+        λ t ys x.
             let u = lines-of-text t ys x in
-            subst (λ zs. fault-of (cells-of t) zs ≡ Some e) (one ys (u .1)) (subst (λ w. fault-of (cells-of w) xs ≡ Some e) (u .0) g)))
+            subst (λ zs. fault-of (cells-of t) zs ≡ Some e) (one ys (u .1)) (subst (λ w. fault-of (cells-of w) xs ≡ Some e) (u .0) g),
+      ))
       h

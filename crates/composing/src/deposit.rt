@@ -51,7 +51,11 @@ fn link(contributions: &[Contribution], heads: &mut [u32], nexts: &mut [u32])
     }
 }
 
-fn push_records(numbers: &mut Vec<u32>, contributions: &[Contribution], nexts: &[u32]) -> Result<(), Fault>
+fn push_records(
+    numbers: &mut Vec<u32>,
+    contributions: &[Contribution],
+    nexts: &[u32],
+) -> Result<(), Fault>
     requires fits { ⌜ ((k : ℕ) → k < length (now contributions) → getD (now contributions) k (record { leaf = 0; company = 0; amount = 0 }) .amount < 2 ^ 32) ⌝ }
     requires long { ⌜ length (now nexts) ≡ length (now contributions) ⌝ }
     requires linked { ⌜ ((k : ℕ) → k < length (now contributions) → getD (now nexts) k 0 ≡ next-at (now contributions) k) ⌝ }
@@ -72,7 +76,11 @@ fn zeros(heap: Global, n: usize) -> Result<Vec<u32>, AllocError>
 }
 
 // The chains of the leaves, in vectors: the heads, and the next of each record.
-fn chains(heap: Global, cells: u32, contributions: &[Contribution]) -> Result<(Vec<u32>, Vec<u32>), Fault>
+fn chains(
+    heap: Global,
+    cells: u32,
+    contributions: &[Contribution],
+) -> Result<(Vec<u32>, Vec<u32>), Fault>
     requires { ⌜ fault-of cells (now contributions) ≡ None ⌝ }
     ensures { λ r. ⌜ Cases r (λ p. Chained cells (now (contributions .entry)) (vec-items (p .0)) (vec-items (p .1))) (λ e. e ≡ OutOfMemory) ⌝ }
 {

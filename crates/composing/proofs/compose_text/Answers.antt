@@ -27,9 +27,9 @@ returns c = (
   c .in-Ok .settings,
   vec-items (c .in-Continue-contributions .contributions),
   composed-text (c .args .input .now) (c .in-Ok .settings) (c .in-Ok .rest .now) (c .in-Ok .ensures tt .reads)
-  (vec-items (c .in-Continue-contributions .contributions)) (c .in-Continue-contributions .ensures tt .0)
-  (c .count-cells .result) (c .deref .result .now) (c .count-cells .ensures) (c .deref .ensures .value) (c .in-Continue-deposit .ensures tt .0)
-  (vec-items (c .in-Continue-deposit .deposit)) (c .deref-2 .result .now) (vec-items (c .in-Continue-out .out)) _ (c .in-Continue-deposit .ensures tt .1) (c .deref-2 .ensures .value)
-  (c .in-Continue-out .ensures tt .made .0 ∙ front-is (c .args .input .now) (c .in-Ok .settings) (c .in-Ok .rest .now) (c .in-Ok .ensures tt .reads) _ (omega arith))
-  (c .in-Continue-extend-from-slice .ensures tt .items),
+      (vec-items (c .in-Continue-contributions .contributions)) (c .in-Continue-contributions .ensures tt .0)
+      (c .count-cells .result) (c .deref .result .now) (c .count-cells .ensures) (c .deref .ensures .value) (c .in-Continue-deposit .ensures tt .0)
+      (vec-items (c .in-Continue-deposit .deposit)) (c .deref-2 .result .now) (vec-items (c .in-Continue-out .out)) _ (c .in-Continue-deposit .ensures tt .1) (c .deref-2 .ensures .value)
+      (c .in-Continue-out .ensures tt .made .0 ∙ front-is (c .args .input .now) (c .in-Ok .settings) (c .in-Ok .rest .now) (c .in-Ok .ensures tt .reads) _ (omega arith))
+      (c .in-Continue-extend-from-slice .ensures tt .items),
 )

@@ -33,12 +33,12 @@ pub record Ends (bytes : List ℕ) (end k : ℕ) : Type 0 where
   pub lead : getD bytes 0 0 ≡ 48 → k ≡ 1
   pub small : Small (value 10 (take k bytes))
 
--- the fault is told of the line n
+-- the fault tells that the line n is no contribution
 abbrev pub On-line : ℕ → Fault → Type 0
 On-line n (Form line) = line ≡ n
 On-line n (TooLarge line) = line ≡ n
-On-line n (UnknownLeaf line) = line ≡ n
-On-line n NoSettings = n ≡ 1
+On-line n (UnknownLeaf line) = ⊥
+On-line n NoSettings = ⊥
 On-line n TooMany = ⊥
 On-line n OutOfMemory = ⊥
 

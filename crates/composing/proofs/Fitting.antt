@@ -2,11 +2,9 @@
 use mathlib.Core.Path.{_≡_, refl, sym, _∙_}
 use mathlib.Core.List.{List, [], _∷_}
 use mathlib.Core.Logic.{⊎-elim}
-use mathlib.Core.Bool.{true, false}
 use Prim.Native.Nat.{ℕ, zero, suc, _+_, _<_, _≤_}
 use native.Mathlib.Omega.{arith}
 use native.Mathlib.Nat.{le-of-suc-le-suc, not-suc-le-zero}
-use lib.Dec.{leb, ltb}
 use lib.ListN.{length, getD, drop}
 use Rattle.std.specs.declared.option.Option.{Option}
 use Rattle.std.specs.declared.option.Option.the-variants.{Some, None}
@@ -57,11 +55,11 @@ first-fits : (cells n : ℕ) (x : Contribution) (xs : List Contribution) → fau
 first-fits cells n x xs e =
     ⊎-elim
     (λ (l : x .leaf < cells).
-      let e1 = rw (lt-leb cells (x .leaf) l) at e in
-      ⊎-elim
-      (λ (a : 4294967295 < x .amount). absurd (never {f = TooLarge n} refl (rw (lt-ltb 4294967295 (x .amount) a) at e1)))
-      (λ (a : x .amount ≤ 4294967295). (record { leaf = l; amount = a }, rw (le-ltb 4294967295 (x .amount) a) at e1))
-      (cases-lt 4294967295 (x .amount)))
+    let e1 = rw (lt-leb cells (x .leaf) l) at e in
+    ⊎-elim
+    (λ (a : 4294967295 < x .amount). absurd (never {f = TooLarge n} refl (rw (lt-ltb 4294967295 (x .amount) a) at e1)))
+    (λ (a : x .amount ≤ 4294967295). (record { leaf = l; amount = a }, rw (le-ltb 4294967295 (x .amount) a) at e1))
+    (cases-lt 4294967295 (x .amount)))
     (λ (l : cells ≤ x .leaf). absurd (never {f = UnknownLeaf n} refl (rw (le-leb cells (x .leaf) l) at e)))
     (cases-lt (x .leaf) cells)
 

@@ -11,6 +11,8 @@ use Rattle.std.proofs.shelf.Lists.{joined-more, nil-from-length}
 use Rattle.layouts.specs.declared.memory.Contribution.{Contribution}
 use Rattle.settings.specs.Line.{numberText, pairText}
 use Rattle.settings.specs.Reading.{Alone, Never}
+use Rattle.composing.specs.declared.faults.Fault.{Fault}
+use Rattle.composing.specs.Reading.{On-line, Broken}
 use Rattle.composing.specs.Text.{contributionText, SmallContribution, Lines}
 
 -- The contributions xs have been read, and the rest is left: it is what follows xs, of whichever contributions the input is the text.
@@ -44,8 +46,13 @@ module _ (input : List ℕ) (xs : List Contribution) (rest : List ℕ) (b : Begu
     no-lines never [] l = omega (arith, ap length (l .is))
     no-lines never (z ∷ zs) l = never z (joined contributionText zs) (l .small .0, l .is)
 
-    pub begun-never : Never SmallContribution contributionText rest → (ys : List Contribution) → Lines input ys → ⊥
-    begun-never never ys l = let f = b .follows ys l in no-lines never (f .0) (f .2)
+    pub begun-never : (e : Fault) (n : ℕ) → n ≡ length xs → Never SmallContribution contributionText rest → On-line (n + 2) e → Broken input e
+    begun-never e n count never line = record {
+      none = λ ys l. let f = b .follows ys l in no-lines never (f .0) (f .2);
+      xs = xs;
+      rest = rest;
+      stops = record { small = b .small; is = b .is; left = left; never = never; line = subst (λ m. On-line (m + 2) e) count line };
+    }
 
     module _ (x : Contribution) (after : List ℕ) (a : Alone SmallContribution contributionText rest x after) where
       lines-after : (zs : List Contribution) → Lines rest zs → (ws : List Contribution) × (xs ++ zs ≡ (xs ++ x ∷ []) ++ ws) × Lines after ws

@@ -1,5 +1,5 @@
 -- The numbers of a deposit as they are linked, listed and written.
-use mathlib.Core.Path.{_≡_, refl, sym, ap, _∙_, subst}
+use mathlib.Core.Path.{_≡_, sym, ap, _∙_, subst}
 use mathlib.Core.List.{List, [], _∷_, _++_, append-assoc, append-nil}
 use mathlib.Core.Logic.{_≢_, ⊎-elim}
 use Prim.Native.Nat.{ℕ, _+_, _<_, _≤_}
@@ -28,12 +28,12 @@ module _ (xs : List Contribution) (hs : List ℕ) (i j : ℕ) (e : i ≡ j + 1) 
       let here : first-of k (j + 1) (drop j xs) ≡ first-of k (j + 1) (x ∷ drop (j + 1) xs) = at-drop-more (first-of k (j + 1)) xs j blank h in
       ⊎-elim
       (λ (s : x .leaf ≡ k).
-        let at-k : getD (set hs (x .leaf) (j + 1)) k 0 ≡ j + 1 = subst (λ m. getD (set hs (x .leaf) (j + 1)) m 0 ≡ j + 1) s (getD-set-same hs (x .leaf) (j + 1) 0 w) in
-        rw (at-k, here, eq-eqb (x .leaf) k s))
+      let at-k : getD (set hs (x .leaf) (j + 1)) k 0 ≡ j + 1 = subst (λ m. getD (set hs (x .leaf) (j + 1)) m 0 ≡ j + 1) s (getD-set-same hs (x .leaf) (j + 1) 0 w) in
+      rw (at-k, here, eq-eqb (x .leaf) k s))
       (λ (d : x .leaf ≡ k → ⊥).
-        let apart : k ≢ x .leaf = λ s. d (sym s) in
-        let old : getD hs k 0 ≡ first-of k (j + 1 + 1) (drop (j + 1) xs) = subst (λ n. getD hs k 0 ≡ first-of k (n + 1) (drop n xs)) e (linked k l) in
-        rw (getD-set-other hs (x .leaf) k (j + 1) 0 apart, here, ne-eqb (x .leaf) k d) old)
+      let apart : k ≢ x .leaf = λ s. d (sym s) in
+      let old : getD hs k 0 ≡ first-of k (j + 1 + 1) (drop (j + 1) xs) = subst (λ n. getD hs k 0 ≡ first-of k (n + 1) (drop n xs)) e (linked k l) in
+      rw (getD-set-other hs (x .leaf) k (j + 1) 0 apart, here, ne-eqb (x .leaf) k d) old)
       (cases-eq (x .leaf) k)
 
   pub linked-nexts-more : getD xs j blank .leaf < length hs → (ns : List ℕ) → length ns ≡ length xs
@@ -46,10 +46,10 @@ module _ (xs : List Contribution) (hs : List ℕ) (i j : ℕ) (e : i ≡ j + 1) 
       let new : getD hs leaf 0 ≡ next-at xs j = old ∙ ap (λ n. first-of leaf n (drop (j + 1) xs)) two in
       ⊎-elim
       (λ (s : j ≡ k).
-        subst (λ m. getD (set ns j (getD hs leaf 0)) m 0 ≡ next-at xs m) s (getD-set-same ns j (getD hs leaf 0) 0 (omega arith) ∙ new))
+      subst (λ m. getD (set ns j (getD hs leaf 0)) m 0 ≡ next-at xs m) s (getD-set-same ns j (getD hs leaf 0) 0 (omega arith) ∙ new))
       (λ (d : j ≡ k → ⊥).
-        let apart : k ≢ j = λ s. d (sym s) in
-        rw (getD-set-other ns j k (getD hs leaf 0) 0 apart) (nexts k (omega (arith, d)) hi))
+      let apart : k ≢ j = λ s. d (sym s) in
+      rw (getD-set-other ns j k (getD hs leaf 0) 0 apart) (nexts k (omega (arith, d)) hi))
       (cases-eq j k)
 
 -- ---- listing
@@ -66,7 +66,7 @@ listed-more xs i h before one two after whole next inv n a b d =
     let open-up : records (i + 1) (drop i xs) ≡ x .company ∷ x .amount ∷ first-of (x .leaf) (i + 1 + 1) (drop (i + 1) xs) ∷ rest = at-drop-more (records (i + 1)) xs i blank h in
     let next-is : first-of (x .leaf) (i + 1 + 1) (drop (i + 1) xs) ≡ next = ap (λ m. first-of (x .leaf) m (drop (i + 1) xs)) e ∙ sym n in
     let joins : after ++ rest ≡ before ++ x .company ∷ x .amount ∷ next ∷ rest =
-        rw (d, b, a) (append-assoc ((before ++ x .company ∷ []) ++ x .amount ∷ []) (next ∷ []) rest ∙ append-assoc (before ++ x .company ∷ []) (x .amount ∷ []) (next ∷ rest) ∙ append-assoc before (x .company ∷ []) (x .amount ∷ next ∷ rest)) in
+    rw (d, b, a) (append-assoc ((before ++ x .company ∷ []) ++ x .amount ∷ []) (next ∷ []) rest ∙ append-assoc (before ++ x .company ∷ []) (x .amount ∷ []) (next ∷ rest) ∙ append-assoc before (x .company ∷ []) (x .amount ∷ next ∷ rest)) in
     joins ∙ ap (λ m. before ++ x .company ∷ x .amount ∷ m ∷ rest) (sym next-is) ∙ ap (λ r. before ++ r) (sym open-up) ∙ inv
 
 pub listed-all : (xs : List Contribution) (i : ℕ) → length xs ≤ i → (before whole : List ℕ) → before ++ records (i + 1) (drop i xs) ≡ whole → before ≡ whole

@@ -33,9 +33,9 @@ module _ (bytes : List ℕ) (end : ℕ) where
       ⊎-elim
       (λ (l : k < i + 1). omega (arith, digits k l, a .at))
       (λ (l : i + 1 ≤ k).
-        let e : i + 1 + (k - (i + 1)) ≡ k = omega arith in
-        let more = value-grows bytes (i + 1) (k - (i + 1)) (omega (arith, a .within)) (λ j m. a .digits j (omega arith)) in
-        omega (arith, rw e at more, a .small))
+      let e : i + 1 + (k - (i + 1)) ≡ k = omega arith in
+      let more = value-grows bytes (i + 1) (k - (i + 1)) (omega (arith, a .within)) (λ j m. a .digits j (omega arith)) in
+      omega (arith, rw e at more, a .small))
       (cases-lt k (i + 1))
 
   ends-number : (n : ℕ) (rest : List ℕ) → Small n → bytes ≡ decimal n ++ (end ∷ rest) → Ends bytes end (length (decimal n))

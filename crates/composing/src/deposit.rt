@@ -1,11 +1,10 @@
 // A deposit from contributions: the chain of each leaf in their order, and the bytes.
 ghost use mathlib.Core.Path.{_≡_};
-ghost use mathlib.Core.Bool.{cond};
 ghost use mathlib.Core.List.{_++_};
 ghost use Prim.Native.Nat.{ℕ, _^_, _<_};
 ghost use lib.ListN.{length, getD, replicate};
 ghost use Rattle.std.specs.Of.Vec.{vec-items};
-ghost use Rattle.std.specs.Results.{Cases, isOk};
+ghost use Rattle.std.specs.Results.{Cases};
 ghost use Rattle.std.specs.Vec.{made};
 ghost use Rattle.std.specs.declared.option.Option.the-variants.{None};
 ghost use Rattle.std.specs.shelf.Lists.{joined};
@@ -51,7 +50,11 @@ fn link(contributions: &[Contribution], heads: &mut [u32], nexts: &mut [u32])
     }
 }
 
-fn push_records(numbers: &mut Vec<u32>, contributions: &[Contribution], nexts: &[u32]) -> Result<(), Fault>
+fn push_records(
+    numbers: &mut Vec<u32>,
+    contributions: &[Contribution],
+    nexts: &[u32],
+) -> Result<(), Fault>
     requires fits { ⌜ ((k : ℕ) → k < length (now contributions) → getD (now contributions) k (record { leaf = 0; company = 0; amount = 0 }) .amount < 2 ^ 32) ⌝ }
     requires long { ⌜ length (now nexts) ≡ length (now contributions) ⌝ }
     requires linked { ⌜ ((k : ℕ) → k < length (now contributions) → getD (now nexts) k 0 ≡ next-at (now contributions) k) ⌝ }
@@ -72,7 +75,11 @@ fn zeros(heap: Global, n: usize) -> Result<Vec<u32>, AllocError>
 }
 
 // The chains of the leaves, in vectors: the heads, and the next of each record.
-fn chains(heap: Global, cells: u32, contributions: &[Contribution]) -> Result<(Vec<u32>, Vec<u32>), Fault>
+fn chains(
+    heap: Global,
+    cells: u32,
+    contributions: &[Contribution],
+) -> Result<(Vec<u32>, Vec<u32>), Fault>
     requires { ⌜ fault-of cells (now contributions) ≡ None ⌝ }
     ensures { λ r. ⌜ Cases r (λ p. Chained cells (now (contributions .entry)) (vec-items (p .0)) (vec-items (p .1))) (λ e. e ≡ OutOfMemory) ⌝ }
 {

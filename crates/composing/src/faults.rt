@@ -1,12 +1,14 @@
 // What can be wrong with a text that a deposit is to be made of.
 ghost use mathlib.Core.Path.{_≡_};
+ghost use Rattle.composing.specs.Told.{told};
 ghost use Rattle.composing.specs.declared.faults.Fault.the-variants.{OutOfMemory};
+ghost use Rattle.std.specs.declared.option.Option.the-variants.{Some};
 use std::alloc::AllocError;
 use std::alloc::Refused;
 use std::fmt;
 
 // The settings stand on line 1 and the contributions from line 2 on.
-#[derive(Clone, Copy, Debug)]
+#[derive(Clone, Copy)]
 pub enum Fault {
     // line 1 is no settings line
     Settings,
@@ -23,6 +25,8 @@ pub enum Fault {
 }
 
 pub impl fmt::Display for Fault as FaultDisplay {
+    ghost shown = { λ e. Some (told e) };
+
     fn fmt<W: fmt::Write>(&self, f: &mut fmt::Formatter<W>) -> fmt::Result {
         match self {
             Fault::Settings => write!(f, "line 1: not a settings line"),

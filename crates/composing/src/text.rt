@@ -11,7 +11,7 @@ use std::alloc::Global;
 // The number that the bytes begin with, and where its digits end, if the byte there is `end`.
 fn scan_number(bytes: &[u8], end: u8, line: usize) -> Result<(u32, usize), Fault>
     requires { ⌜ end < 48 ⌝ }
-    ensures { λ r. ⌜ Scanned (now (bytes .entry)) end r ⌝ }
+    ensures { λ r. ⌜ Scanned line (now (bytes .entry)) end r ⌝ }
 {
     let mut number: u32 = 0;
     for (i, b) in bytes.iter().enumerate() {
@@ -32,7 +32,7 @@ fn scan_number(bytes: &[u8], end: u8, line: usize) -> Result<(u32, usize), Fault
 
 fn read_number(bytes: &[u8], end: u8, line: usize) -> Result<(u32, &[u8]), Fault>
     requires { ⌜ end < 48 ⌝ }
-    ensures { λ r. ⌜ Reads Small (numberText end) (now (bytes .entry)) r ⌝ }
+    ensures { λ r. ⌜ Reads line Small (numberText end) (now (bytes .entry)) r ⌝ }
 {
     let (number, at) = scan_number(bytes, end, line)?;
     Ok((number, &bytes[at + 1..]))
@@ -41,7 +41,7 @@ fn read_number(bytes: &[u8], end: u8, line: usize) -> Result<(u32, &[u8]), Fault
 // Two numbers, a blank between them.
 fn read_pair(bytes: &[u8], end: u8, line: usize) -> Result<((u32, u32), &[u8]), Fault>
     requires { ⌜ end < 48 ⌝ }
-    ensures { λ r. ⌜ Reads SmallPair (pairText end) (now (bytes .entry)) r ⌝ }
+    ensures { λ r. ⌜ Reads line SmallPair (pairText end) (now (bytes .entry)) r ⌝ }
 {
     let (first, rest) = read_number(bytes, b' ', line)?;
     let (second, rest) = read_number(rest, end, line)?;
@@ -49,7 +49,7 @@ fn read_pair(bytes: &[u8], end: u8, line: usize) -> Result<((u32, u32), &[u8]), 
 }
 
 fn read_contribution(bytes: &[u8], line: usize) -> Result<(Contribution, &[u8]), Fault>
-    ensures { λ r. ⌜ Reads SmallContribution contributionText (now (bytes .entry)) r ⌝ }
+    ensures { λ r. ⌜ Reads line SmallContribution contributionText (now (bytes .entry)) r ⌝ }
 {
     let (leaf, rest) = read_number(bytes, b' ', line)?;
     let ((company, amount), rest) = read_pair(rest, b'\n', line)?;

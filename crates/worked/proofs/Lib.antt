@@ -1,1 +1,2 @@
+-- Contributions in another order.
 pub mod Orders

@@ -47,10 +47,11 @@ loop-i-again c =
     let h : i - 1 < length xs = omega arith in
     let w = has-head xs (c .args .heads .now) (c .loop-i .heads) i (c .pre .fits) (c .loop-i .kept .heads) (c .loop-i-test .taken) (c .loop-i .inv .0) in
     let hs = c .loop-i .heads in
-    let long : length (c .loop-i .nexts) ≡ length xs = omega arith in
-    (omega arith,
-    λ k l. linked-heads-more xs hs i (i - 1) e h (c .loop-i .inv .1) w k (simp length-set at l),
-    linked-nexts-more xs hs i (i - 1) e h (c .loop-i .inv .1) w (c .loop-i .nexts) long (c .loop-i .inv .2))
+    let long : length (c .loop-i .nexts) ≡ length xs = omega arith in (
+      omega arith,
+      λ k l. linked-heads-more xs hs i (i - 1) e h (c .loop-i .inv .1) w k (simp length-set at l),
+      linked-nexts-more xs hs i (i - 1) e h (c .loop-i .inv .1) w (c .loop-i .nexts) long (c .loop-i .inv .2),
+    )
 
 pub returns : need.returns
 returns c =

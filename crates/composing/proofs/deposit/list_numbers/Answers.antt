@@ -1,10 +1,9 @@
 -- The counts, the heads and the records, one after another.
 use mathlib.Core.Path.{ap, _∙_}
-use Prim.Native.Nat.{ℕ}
 use native.Mathlib.Omega.{arith}
 use lib.ListN.{length, getD}
 use Rattle.std.specs.Of.Vec.{vec-items}
-use Rattle.composing.proofs.Fitting.{blank, each-fits}
+use Rattle.composing.proofs.Fitting.{each-fits}
 use Rattle.composing.proofs.Numbers.{all-listed}
 use Rattle.composing.proofs.deposit.list_numbers.Needs as need
 

@@ -22,13 +22,15 @@ contribution-one leaf p y l r =
 pub returns-in-Break-leaf : need.returns-in-Break-leaf
 returns-in-Break-leaf c =
     let p = err-from-errBy (c .from-residual .result) (c .from-residual .ensures .1) in
-    rw (p .1) (no-first one two Small (numberText 32) SmallPair (pairText 10) (c .args .bytes .now) (c .in-Break-leaf .ensures tt))
+    rw (p .1, p .2) (no-first one two Small (numberText 32) SmallPair (pairText 10) (c .args .bytes .now) (c .in-Break-leaf .ensures tt .0), c .in-Break-leaf .ensures tt .1)
 
 pub returns-in-Break-company : need.returns-in-Break-company
 returns-in-Break-company c =
     let p = err-from-errBy (c .from-residual-in-Break-company .result) (c .from-residual-in-Break-company .ensures .1) in
-    rw (p .1)
-    (no-second one two Small (numberText 32) SmallPair (pairText 10) (c .args .bytes .now) _ _ (c .in-Continue-leaf .ensures tt) (c .in-Break-company .ensures tt))
+    rw (p .1, p .2) (
+      no-second one two Small (numberText 32) SmallPair (pairText 10) (c .args .bytes .now) _ _ (c .in-Continue-leaf .ensures tt) (c .in-Break-company .ensures tt .0),
+      c .in-Break-company .ensures tt .1,
+    )
 
 pub returns : need.returns
 returns c =

@@ -25,7 +25,9 @@ pub returns-in-Break-contribution : need.returns-in-Break-contribution
 returns-in-Break-contribution c =
     let p = err-from-errBy (c .from-residual .result) (c .from-residual .ensures .1) in
     let left = some-left (length (c .loop-rest .rest .now)) (sym (c .is-empty .ensures) ∙ c .loop-rest-test .taken) in
-    rw (p .1) (inr (begun-never (c .args .text .now) (vec-items (c .loop-rest .contributions)) (c .loop-rest .rest .now) (c .loop-rest .inv) left (c .in-Break-contribution .ensures tt)))
+    rw (p .1, p .2) (inr (begun-never (c .args .text .now) (vec-items (c .loop-rest .contributions)) (c .loop-rest .rest .now) (c .loop-rest .inv) left
+    (c .in-Break-contribution .field-0 .0) (c .len-line .result) (c .len-line .ensures ∙ c .loop-rest .contributions .ok .0)
+    (c .in-Break-contribution .ensures tt .0) (c .in-Break-contribution .ensures tt .1)))
 
 pub loop-rest-again : need.loop-rest-again
 loop-rest-again c =

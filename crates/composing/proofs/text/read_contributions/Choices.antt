@@ -1,6 +1,4 @@
 -- The text is that of the contributions so far and then the rest, and every other reading of it begins with them.
-use mathlib.Core.Path.{_≡_}
-use mathlib.Core.List.{List, _++_}
 use lib.ListN.{length}
 use Rattle.std.specs.Of.Vec.{vec-items}
 use Rattle.composing.proofs.Lines.{Begun}

@@ -8,7 +8,7 @@ use Rattle.composing.proofs.text.read_number.Needs as need
 pub returns-in-Break-number : need.returns-in-Break-number
 returns-in-Break-number c =
     let p = err-from-errBy (c .from-residual .result) (c .from-residual .ensures .1) in
-    rw (p .1) (number-none (c .args .bytes .now) (c .args .end) (c .in-Break-number .ensures tt))
+    rw (p .1, p .2) (number-none (c .args .bytes .now) (c .args .end) (c .in-Break-number .ensures tt .0), c .in-Break-number .ensures tt .1)
 
 pub returns : need.returns
 returns c =

@@ -16,13 +16,15 @@ two p = p .1
 pub returns-in-Break-first : need.returns-in-Break-first
 returns-in-Break-first c =
     let p = err-from-errBy (c .from-residual .result) (c .from-residual .ensures .1) in
-    rw (p .1) (no-first one two Small (numberText 32) Small (numberText (c .args .end)) (c .args .bytes .now) (c .in-Break-first .ensures tt))
+    rw (p .1, p .2) (no-first one two Small (numberText 32) Small (numberText (c .args .end)) (c .args .bytes .now) (c .in-Break-first .ensures tt .0), c .in-Break-first .ensures tt .1)
 
 pub returns-in-Break-second : need.returns-in-Break-second
 returns-in-Break-second c =
     let p = err-from-errBy (c .from-residual-in-Break-second .result) (c .from-residual-in-Break-second .ensures .1) in
-    rw (p .1)
-    (no-second one two Small (numberText 32) Small (numberText (c .args .end)) (c .args .bytes .now) _ _ (c .in-Continue-first .ensures tt) (c .in-Break-second .ensures tt))
+    rw (p .1, p .2) (
+      no-second one two Small (numberText 32) Small (numberText (c .args .end)) (c .args .bytes .now) _ _ (c .in-Continue-first .ensures tt) (c .in-Break-second .ensures tt .0),
+      c .in-Break-second .ensures tt .1,
+    )
 
 pub returns : need.returns
 returns c =

@@ -11,7 +11,6 @@ mkdir -p crates/audit_bench/src
 cat > crates/audit_bench/src/main.rt <<'PROGRAM'
 // Times the audit of a grid of 15 rows and 31 columns, of which every second inner cell is sensitive.
 use layouts::admission::admit;
-use layouts::admitted::Admitted;
 use layouts::grid::Grid;
 use layouts::grid::GridLayout;
 use layouts::memory::Mark;
@@ -31,27 +30,6 @@ fn is_shown(pattern: usize, total: bool, need: u64, cell: usize) -> bool {
     }
 }
 
-// Figures up to a million; or, for the longest paths of changes, powers of two of all sizes, of which the large ones need many small.
-fn fill(table: &mut Vec<Row>, kind: u64) {
-    let (rows, columns, wide) = (15, 31, 32);
-    let mut seed: u64 = 12345;
-    for row in table.iter_mut() {
-        *row = Row { figure: 0, need: 0, mark: Mark::Open };
-    }
-    for r in 0..rows {
-        for c in 0..columns {
-            seed = seed.wrapping_mul(6364136223846793005).wrapping_add(1442695040888963407);
-            let figure = if kind == 0 { (seed >> 33) % 1000000 + 1 } else { 1 << ((seed >> 33) % 31) };
-            let need = if (r * columns + c) % 2 == 0 { figure / 5 + 1 } else { 0 };
-            table[r * wide + c] = Row { figure, need, mark: Mark::Open };
-            for k in [r * wide + columns, rows * wide + c, rows * wide + columns] {
-                let old = table[k].figure;
-                table[k] = Row { figure: old + figure, need: 0, mark: Mark::Open };
-            }
-        }
-    }
-}
-
 fn main(rt: LibcRuntime) -> io::Result<()> {
     let (rows, columns, wide) = (15, 31, 32);
     let Ok(grid) = Grid::new(rows, columns) else {
@@ -60,15 +38,19 @@ fn main(rt: LibcRuntime) -> io::Result<()> {
     let Ok(mut admitted) = admit(rt.alloc(), &grid) else {
         return println!(rt, "not admitted");
     };
-    for kind in 0..2 {
-        fill(&mut admitted.memory.rows, kind);
-        audit_patterns(&rt, &mut admitted, kind)?;
+    let mut seed: u64 = 12345;
+    for r in 0..rows {
+        for c in 0..columns {
+            seed = seed.wrapping_mul(6364136223846793005).wrapping_add(1442695040888963407);
+            let figure = (seed >> 33) % 1000000 + 1;
+            let need = if (r * columns + c) % 2 == 0 { figure / 5 + 1 } else { 0 };
+            admitted.memory.rows[r * wide + c] = Row { figure, need, mark: Mark::Open };
+            for k in [r * wide + columns, rows * wide + c, rows * wide + columns] {
+                let old = admitted.memory.rows[k].figure;
+                admitted.memory.rows[k] = Row { figure: old + figure, need: 0, mark: Mark::Open };
+            }
+        }
     }
-    Ok(())
-}
-
-fn audit_patterns(rt: &LibcRuntime, admitted: &mut Admitted, kind: u64) -> io::Result<()> {
-    let (rows, columns, wide) = (15, 31, 32);
     for pattern in 0..3 {
         for c in 0..512 {
             let total = c / wide == rows || c % wide == columns;
@@ -91,7 +73,7 @@ fn audit_patterns(rt: &LibcRuntime, admitted: &mut Admitted, kind: u64) -> io::R
             }
         }
         let each = began.elapsed(&rt)?.as_micros() / u128::from(AUDITS);
-        println!(rt, "kind {kind}, pattern {pattern}: {passed} of {AUDITS} passed, {each} us each")?;
+        println!(rt, "pattern {pattern}: {passed} of {AUDITS} passed, {each} us each")?;
     }
     Ok(())
 }

@@ -1,4 +1,6 @@
 // Reads a settings line and contributions, and writes the settings line and the deposit.
+#![tactic(auto)]
+
 use composing::compose_text;
 use std::io;
 use std::io::{Read, Write};

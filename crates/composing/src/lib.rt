@@ -1,4 +1,6 @@
 // Makes a deposit from text, so that a person can try the product.
+#![tactic(auto)]
+
 ghost use Rattle.std.specs.Prelude.{◌≡◌};
 ghost use Rattle.settings.specs.Line.{ShortLayout};
 ghost use Rattle.composing.specs.Reading.{ComposesText};

@@ -1,4 +1,6 @@
 // An office's desk: reads settings, contributions and a script of acts, runs the acts under the law, and tells each with its answer.
+#![tactic(auto)]
+
 use intake::held::Intake;
 use job::choosing::{make_layout, make_rule};
 use layouts::admission::admit;

@@ -1,4 +1,6 @@
 // Runs the worked cases through the public calls, and prints each with its outcome.
+#![tactic(auto)]
+
 use cases::{entering, long_list, opening, printed_twice, printing, searching, witnessing};
 use std::io;
 use tables::{grid_sheet, literature_sheet};

@@ -1,4 +1,6 @@
 // From contributions to the figures and needs of a table.
+#![tactic(auto)]
+
 mod deposit;
 pub mod entering;
 pub mod held;

@@ -1,4 +1,6 @@
 // Reads a rule and amounts, one a line, and tells whether they are sensitive and why.
+#![tactic(auto)]
+
 use judging::{Asked, judge};
 use std::io;
 use std::io::{BufRead, BufReader};

@@ -1,4 +1,6 @@
 // Why a list of amounts is sensitive, or is not: the figures that a rule goes by, and its need.
+#![tactic(auto)]
+
 ghost use Rattle.std.specs.Prelude.{◌≡◌};
 ghost use Rattle.judging.specs.Judged.{judged};
 ghost use Rattle.judging.specs.declared.Asked.TheVariants.{P as askP, Nk as askNk};

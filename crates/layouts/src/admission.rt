@@ -45,8 +45,8 @@ fn get_memory(heap: Global, cells: usize, relations: usize) -> Result<Memory, Re
 }
 
 fn copy_network<L: Layout>(heap: Global, layout: &L) -> Result<Network, Refusal>
-    requires { admissible (shape layout.now) ≡ true }
-    ensures { MatchResult result (λ n. Same (shape layout.now) (shape_of n)) (λ e. e ≡ OutOfMemory) }
+    requires { admissible (L.shape layout.now) ≡ true }
+    ensures { MatchResult result (λ n. Same (L.shape layout.now) (shape_of n)) (λ e. e ≡ OutOfMemory) }
 {
     let relations = layout.relations();
     let Arcs {
@@ -65,7 +65,7 @@ fn copy_network<L: Layout>(heap: Global, layout: &L) -> Result<Network, Refusal>
 }
 
 pub fn admit<L: Layout>(heap: Global, layout: &L) -> Result<Admitted, Refusal>
-    ensures { MatchResult result (λ a. (admissible (shape layout.now) ≡ true) × Same (shape layout.now) (shape_of a.network)) (λ e. e ≡ layout_refusal (shape layout.now)) }
+    ensures { MatchResult result (λ a. (admissible (L.shape layout.now) ≡ true) × Same (L.shape layout.now) (shape_of a.network)) (λ e. e ≡ layout_refusal (L.shape layout.now)) }
 {
     let cells = layout.cells();
     let relations = layout.relations();

@@ -17,7 +17,7 @@ pub(crate) struct Arcs {
 }
 
 pub(crate) fn copy_arcs<L: Layout>(heap: Global, layout: &L) -> Result<Arcs, Refusal>
-    ensures { MatchResult result (λ a. ArcsOf (shape layout.now) a) (λ e. e ≡ OutOfMemory) }
+    ensures { MatchResult result (λ a. ArcsOf (L.shape layout.now) a) (λ e. e ≡ OutOfMemory) }
 {
     let mut leaves = Vec::new(heap);
     let mut enters = Vec::new(heap);
@@ -37,7 +37,7 @@ pub(crate) fn copy_arcs<L: Layout>(heap: Global, layout: &L) -> Result<Arcs, Ref
 
 // Appends the marks of one cell: of a leaf, under which cells it counts.
 fn copy_marks<L: Layout>(layout: &L, leaf: usize, under: &mut Vec<bool>) -> Result<(), Refusal>
-    ensures { MatchResult result (λ _. under.new.items ≡ under.old.items ++ values (shape layout.now).cells (marks_of (shape layout.now) leaf)) (λ e. e ≡ OutOfMemory) }
+    ensures { MatchResult result (λ _. under.new.items ≡ under.old.items ++ values (L.shape layout.now).cells (marks_of (L.shape layout.now) leaf)) (λ e. e ≡ OutOfMemory) }
 {
     let cells = layout.cells();
     for cell in 0..cells {
@@ -47,7 +47,7 @@ fn copy_marks<L: Layout>(layout: &L, leaf: usize, under: &mut Vec<bool>) -> Resu
 }
 
 pub(crate) fn copy_under<L: Layout>(heap: Global, layout: &L) -> Result<Vec<bool>, Refusal>
-    ensures { MatchResult result (λ v. v.items ≡ values ((shape layout.now).cells * (shape layout.now).cells) (marks_of_all (shape layout.now))) (λ e. e ≡ OutOfMemory) }
+    ensures { MatchResult result (λ v. v.items ≡ values ((L.shape layout.now).cells * (L.shape layout.now).cells) (marks_of_all (L.shape layout.now))) (λ e. e ≡ OutOfMemory) }
 {
     let mut under = Vec::new(heap);
     let cells = layout.cells();

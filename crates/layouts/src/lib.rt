@@ -1,4 +1,6 @@
 // The shape of every table: what a layout means, the two layouts of the house, and a layout's answers kept once it is admitted.
+#![tactic(auto)]
+
 ghost use Rattle.std.specs.Prelude.{◌≡◌};
 ghost use Rattle.layouts.specs.Answers.{counts_of, enters_of, kind_of, leaves_of};
 ghost use Rattle.layouts.specs.Shape.{Laws, Shape};

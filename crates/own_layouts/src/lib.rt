@@ -1,4 +1,6 @@
 // An association's own layout, written against the trait as any association may, and what admission says of layouts at its limits.
+#![tactic(auto)]
+
 pub mod districts;
 
 #[cfg(test)]

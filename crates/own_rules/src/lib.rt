@@ -1,4 +1,6 @@
 // An association's own rule, written against the trait: a list of fewer than three contributors needs its whole sum.
+#![tactic(auto)]
+
 ghost use Rattle.std.specs.Prelude.{◌≡◌, ◌*◌, ◌≤◌, [], length, sum};
 ghost use Rattle.own_rules.specs.Few.{few_need};
 ghost use Rattle.std.proofs.lemmas.List.Sorted.{sum_by-IsPermutation, length_permutation};

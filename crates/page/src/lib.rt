@@ -1,4 +1,6 @@
 // Pages: a line of 19 bytes for each cell, with its figure or the letter D.
+#![tactic(auto)]
+
 ghost use Rattle.std.specs.Prelude.{◌≡◌, ◌+◌, ◌*◌, ◌<◌, true, length};
 ghost use Rattle.page.specs.Laws.{PageLaws};
 ghost use Rattle.page.specs.Page.{fits};

@@ -1,4 +1,6 @@
 // The refusals of the product: why a call was rejected, and which cell and side it names.
+#![tactic(auto)]
+
 ghost use Rattle.std.specs.Prelude.{◌≡◌, Some};
 ghost use Rattle.refusals.specs.Refusals.{line, text, side_number, side_of};
 ghost use Rattle.refusals.specs.declared.Refusal.TheVariants.{OutOfMemory};

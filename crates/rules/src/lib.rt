@@ -1,4 +1,6 @@
 // Risk rules: whether a list of amounts is sensitive, and how much uncertainty it then needs.
+#![tactic(auto)]
+
 ghost use Rattle.std.specs.Prelude.{◌≡◌, ℕ, ◌≤◌, List, [], length, sum};
 ghost use Rattle.std.specs.List.Sorted.{IsPermutation};
 ghost use Rattle.rules.specs.Examples.{WorkedNeeds};
@@ -39,9 +41,9 @@ pub trait Rule {
 
 // Begins the rule, tells it the amounts in their order, and asks. Where one is refused, the rule stands for those before it.
 pub fn need_of<R: Rule>(rule: &mut R, amounts: &[u64]) -> Result<u64, Refusal>
-    ensures answer { result ≡ need_answer (meaning rule.old) amounts.now }
-    ensures stands { stands rule.new (accepted 0 amounts.now) }
-    ensures same { (xs : List ℕ) → meaning rule.new xs ≡ meaning rule.old xs }
+    ensures answer { result ≡ need_answer (R.meaning rule.old) amounts.now }
+    ensures stands { R.stands rule.new (accepted 0 amounts.now) }
+    ensures same { (xs : List ℕ) → R.meaning rule.new xs ≡ R.meaning rule.old xs }
 {
     rule.begin();
     for amount in amounts {

@@ -1,4 +1,6 @@
 // Runs: the acts of an office on a sheet in their order, and the law that all their pages together keep.
+#![tactic(auto)]
+
 ghost use Rattle.runs.specs.Law.{EveryListRuns, EveryRunIsLawful};
 ghost use Rattle.runs.specs.Runs.{CallsRun};
 ghost use Rattle.runs.specs.Worked.{WorkedRun};

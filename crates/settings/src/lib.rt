@@ -1,4 +1,6 @@
 // The settings line that an input begins with: which layout and which rule a table is to have.
+#![tactic(auto)]
+
 ghost use Rattle.settings.specs.Line.{layout_text, rule_text, settings_text, ShortLayout, ShortRule, ShortSettings, ShortLine};
 ghost use Rattle.settings.specs.Reading.{Exactly, ReadsSettings};
 

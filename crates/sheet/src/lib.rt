@@ -1,4 +1,6 @@
 // The sheet: the rows of a table, and the acts of an office on them.
+#![tactic(auto)]
+
 mod cell;
 mod events;
 mod held;

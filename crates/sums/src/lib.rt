@@ -1,4 +1,6 @@
 // Sums and counts over the numbers below a bound, and their laws, for layouts, figures and readings alike.
+#![tactic(auto)]
+
 ghost use Rattle.std.specs.Prelude.{◌≡◌};
 ghost use Rattle.sums.specs.Laws.{CountAmong, Exchange};
 ghost use Rattle.sums.specs.Sums.{among};

@@ -1,4 +1,6 @@
 // Reads a settings line and a deposit, and writes the page of the table, or the line of its refusal.
+#![tactic(auto)]
+
 use job::suppressing::{LONGEST_INPUT, suppress};
 use std::io;
 use std::io::{Read, Write};

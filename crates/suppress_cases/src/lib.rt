@@ -1,4 +1,6 @@
 // The worked grids from their texts to their pages: each text is composed into a deposit, which the job then loads.
+#![tactic(auto)]
+
 #[cfg(test)]
 mod tests {
     use composing::compose_text;

@@ -1,4 +1,6 @@
 // The worked tables, and that the order of the contributions makes no difference.
+#![tactic(auto)]
+
 ghost use Rattle.worked.specs.Tables.{WorkedTables};
 ghost use Rattle.worked.specs.Order.{OrderIsFree};
 

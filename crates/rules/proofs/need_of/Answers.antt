@@ -8,7 +8,7 @@ use Rattle.rules.proofs.need_of.Goals as goal
 
 pub loop-amount-preserved : goal.loop-amount-preserved
 loop-amount-preserved g c =
-    let said = c.in-ok-tell.ensures in
+    let said = c.in_ok-tell.ensures in
     let inv = c.loop-amount.invariant in
     let i = c.loop-amount.amount-index in
     let xs = c.args.amounts.now in
@@ -22,16 +22,16 @@ loop-amount-preserved g c =
       inv.4 ∙ accepted_more xs i h here,
     )
 
-pub returns-in-err-tell : goal.returns-in-err-tell
-returns-in-err-tell g c =
-    let p = err_from_is_err_and c.from-residual.result c.from-residual.ensures.1 in
-    let said = c.in-err-tell.ensures in
+pub returns-in_err-tell : goal.returns-in_err-tell
+returns-in_err-tell g c =
+    let p = err_from_is_err_and c.from_residual.result c.from_residual.ensures.1 in
+    let said = c.in_err-tell.ensures in
     let inv = c.loop-amount.invariant in
     let i = c.loop-amount.amount-index in
     let xs = c.args.amounts.now in
     let h : i < length xs = c.loop-amount-test.true in
     let long : length (take i xs) ≡ i = simp length-take (omega arith) in
-    let x = c.in-err-tell.field-0.0 in
+    let x = c.in_err-tell.field-0.0 in
     let here : verdict (get_or xs i 0) i ≡ Err x = sym (rw long at (said.refused (take i xs) inv.0)) in
     let none : take i xs ++ accepted i (drop i xs) ≡ take i xs = ap (λ t. take i xs ++ t) (accepted_refused xs i x h here) ∙ append-nil (take i xs) in
     rw (p.1, p.2) (record {

@@ -14,16 +14,16 @@ layout_of s = s.layout
 abbrev rule_of : Settings → RuleSetting
 rule_of s = s.rule
 
-pub returns-in-err-layout : goal.returns-in-err-layout
-returns-in-err-layout c =
-    rw c.from-residual.ensures (no_first layout_of rule_of ShortLayout layout_text ShortRule rule_text c.args.bytes.now c.in-err-layout.ensures)
+pub returns-in_err-layout : goal.returns-in_err-layout
+returns-in_err-layout c =
+    rw c.from_residual.ensures (no_first layout_of rule_of ShortLayout layout_text ShortRule rule_text c.args.bytes.now c.in_err-layout.ensures)
 
-pub returns-in-err-rule : goal.returns-in-err-rule
-returns-in-err-rule c =
-    rw c.from-residual-in-err-rule.ensures
-    (no_second layout_of rule_of ShortLayout layout_text ShortRule rule_text c.args.bytes.now _ _ c.in-ok-layout.ensures c.in-err-rule.ensures)
+pub returns-in_err-rule : goal.returns-in_err-rule
+returns-in_err-rule c =
+    rw c.from_residual-in_err-rule.ensures
+    (no_second layout_of rule_of ShortLayout layout_text ShortRule rule_text c.args.bytes.now _ _ c.in_ok-layout.ensures c.in_err-rule.ensures)
 
 pub returns : goal.returns
 returns c =
-    both layout_of rule_of ShortLayout layout_text ShortRule rule_text c.args.bytes.now _ _ c.in-ok-layout.ensures _ _ c.in-ok-rule.ensures
-    (record { layout = c.in-ok-layout.layout; rule = c.in-ok-rule.rule }) refl refl (settings_one _ _)
+    both layout_of rule_of ShortLayout layout_text ShortRule rule_text c.args.bytes.now _ _ c.in_ok-layout.ensures _ _ c.in_ok-rule.ensures
+    (record { layout = c.in_ok-layout.layout; rule = c.in_ok-rule.rule }) refl refl (settings_one _ _)

@@ -21,20 +21,20 @@ pub link-requires : goal.link-requires
 link-requires c =
     let cells = c.args.cells in
     let xs = c.args.contributions.now in
-    let hs = c.deref-mut.ensures.value ∙ c.in-ok-heads.ensures in
-    let ns = c.deref-mut-2.ensures.value ∙ c.in-ok-nexts.ensures in
+    let hs = c.deref_mut.ensures.value ∙ c.in_ok-heads.ensures in
+    let ns = c.deref_mut-2.ensures.value ∙ c.in_ok-nexts.ensures in
     record {
-      fits = subst (λ n. fault_of n xs ≡ None) (sym (zeros_long cells c.deref-mut.result.now hs)) c.requires;
-      clear = zeros_clear cells c.deref-mut.result.now hs;
-      long = zeros_long (length xs) c.deref-mut-2.result.now ns;
+      fits = subst (λ n. fault_of n xs ≡ None) (sym (zeros_long cells c.deref_mut.result.now hs)) c.requires;
+      clear = zeros_clear cells c.deref_mut.result.now hs;
+      long = zeros_long (length xs) c.deref_mut-2.result.now ns;
     }
 
 pub returns : goal.returns
 returns c =
     let cells = c.args.cells in
     let xs = c.args.contributions.now in
-    let hs = zeros_long cells c.deref-mut.result.now (c.deref-mut.ensures.value ∙ c.in-ok-heads.ensures) in
-    let ns = zeros_long (length xs) c.deref-mut-2.result.now (c.deref-mut-2.ensures.value ∙ c.in-ok-nexts.ensures) in
-    chained cells xs c.link.new.heads c.link.new.nexts _ _ c.in-ok-heads.heads.len c.in-ok-nexts.nexts.len
-    (c.link.auto.heads ∙ c.deref-mut.ensures.len) (c.link.auto.nexts ∙ c.deref-mut-2.ensures.len)
-    (sym c.deref-mut.ensures.len ∙ hs) (sym c.deref-mut-2.ensures.len ∙ ns) c.link.ensures
+    let hs = zeros_long cells c.deref_mut.result.now (c.deref_mut.ensures.value ∙ c.in_ok-heads.ensures) in
+    let ns = zeros_long (length xs) c.deref_mut-2.result.now (c.deref_mut-2.ensures.value ∙ c.in_ok-nexts.ensures) in
+    chained cells xs c.link.new.heads c.link.new.nexts _ _ c.in_ok-heads.heads.len c.in_ok-nexts.nexts.len
+    (c.link.auto.heads ∙ c.deref_mut.ensures.len) (c.link.auto.nexts ∙ c.deref_mut-2.ensures.len)
+    (sym c.deref_mut.ensures.len ∙ hs) (sym c.deref_mut-2.ensures.len ∙ ns) c.link.ensures

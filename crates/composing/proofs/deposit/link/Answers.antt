@@ -20,16 +20,16 @@ has_head xs was hs i none e h k = omega (arith, (each_fits (length was) xs none 
 pub bounds-heads-leaf : goal.bounds-heads-leaf
 bounds-heads-leaf c = has_head c.args.contributions.now c.args.heads.now c.loop-i.heads c.loop-i.i c.requires.fits c.loop-i.auto.heads c.loop-i-test.true c.loop-i.invariant.0
 
-pub offset-bounds-heads-leaf : goal.offset-bounds-heads-leaf
-offset-bounds-heads-leaf c =
+pub offset_bounds-heads-leaf : goal.offset_bounds-heads-leaf
+offset_bounds-heads-leaf c =
     let h = has_head c.args.contributions.now c.args.heads.now c.loop-i.heads c.loop-i.i c.requires.fits c.loop-i.auto.heads c.loop-i-test.true c.loop-i.invariant.0 in
     search rules
 
 pub bounds-heads-leaf-in-loop-i : goal.bounds-heads-leaf-in-loop-i
 bounds-heads-leaf-in-loop-i c = has_head c.args.contributions.now c.args.heads.now c.loop-i.heads c.loop-i.i c.requires.fits c.loop-i.auto.heads c.loop-i-test.true c.loop-i.invariant.0
 
-pub offset-bounds-heads-leaf-in-loop-i : goal.offset-bounds-heads-leaf-in-loop-i
-offset-bounds-heads-leaf-in-loop-i c =
+pub offset_bounds-heads-leaf-in-loop-i : goal.offset_bounds-heads-leaf-in-loop-i
+offset_bounds-heads-leaf-in-loop-i c =
     let h = has_head c.args.contributions.now c.args.heads.now c.loop-i.heads c.loop-i.i c.requires.fits c.loop-i.auto.heads c.loop-i-test.true c.loop-i.invariant.0 in
     search rules
 

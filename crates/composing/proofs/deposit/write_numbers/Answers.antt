@@ -7,7 +7,7 @@ use Rattle.composing.proofs.Numbers.{written_more}
 use Rattle.composing.proofs.deposit.write_numbers.Goals as goal
 
 pub loop-number-preserved : goal.loop-number-preserved
-loop-number-preserved c = written_more c.args.numbers.now c.loop-number.number-index c.loop-number-test.true _ _ _ c.loop-number.invariant c.to-le-bytes.ensures c.in-ok-extend-from-slice.ensures.items
+loop-number-preserved c = written_more c.args.numbers.now c.loop-number.number-index c.loop-number-test.true _ _ _ c.loop-number.invariant c.to_le_bytes.ensures c.in_ok-extend_from_slice.ensures.items
 
 pub returns : goal.returns
 returns c = c.loop-number.invariant ∙ ap (flat_map number_bytes) (take_all c.loop-number.number-index c.args.numbers.now c.loop-number-test.false)

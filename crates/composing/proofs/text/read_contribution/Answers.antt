@@ -18,20 +18,20 @@ contribution_one leaf p y l r =
     let make : ℕ → ℕ × ℕ → Contribution = λ m q. record { leaf = m; company = q.0; amount = q.1 } in
     ap (λ m. make m p) (sym l) ∙ ap (λ q. make y.leaf q) (sym r)
 
-pub returns-in-err-leaf : goal.returns-in-err-leaf
-returns-in-err-leaf c =
-    let p = err_from_is_err_and c.from-residual.result c.from-residual.ensures.1 in
-    rw (p.1, p.2) (no_first one two Small (number_text 32) SmallPair (pair_text 10) c.args.bytes.now c.in-err-leaf.ensures.0, c.in-err-leaf.ensures.1)
+pub returns-in_err-leaf : goal.returns-in_err-leaf
+returns-in_err-leaf c =
+    let p = err_from_is_err_and c.from_residual.result c.from_residual.ensures.1 in
+    rw (p.1, p.2) (no_first one two Small (number_text 32) SmallPair (pair_text 10) c.args.bytes.now c.in_err-leaf.ensures.0, c.in_err-leaf.ensures.1)
 
-pub returns-in-err-company : goal.returns-in-err-company
-returns-in-err-company c =
-    let p = err_from_is_err_and c.from-residual-in-err-company.result c.from-residual-in-err-company.ensures.1 in
+pub returns-in_err-company : goal.returns-in_err-company
+returns-in_err-company c =
+    let p = err_from_is_err_and c.from_residual-in_err-company.result c.from_residual-in_err-company.ensures.1 in
     rw (p.1, p.2) (
-      no_second one two Small (number_text 32) SmallPair (pair_text 10) c.args.bytes.now _ _ c.in-ok-leaf.ensures c.in-err-company.ensures.0,
-      c.in-err-company.ensures.1,
+      no_second one two Small (number_text 32) SmallPair (pair_text 10) c.args.bytes.now _ _ c.in_ok-leaf.ensures c.in_err-company.ensures.0,
+      c.in_err-company.ensures.1,
     )
 
 pub returns : goal.returns
 returns c =
-    both one two Small (number_text 32) SmallPair (pair_text 10) c.args.bytes.now _ _ c.in-ok-leaf.ensures _ _ c.in-ok-company.ensures
+    both one two Small (number_text 32) SmallPair (pair_text 10) c.args.bytes.now _ _ c.in_ok-leaf.ensures _ _ c.in_ok-company.ensures
     _ refl refl (contribution_one _ _)

@@ -14,25 +14,25 @@ none_left n e = omega (arith, eqb-true n 0 e)
 pub loop-rest-init : goal.loop-rest-init
 loop-rest-init c = begun_none c.args.text.now (vec_items c.new-contributions.result) c.new-contributions.ensures.items
 
-pub returns-in-err-contribution : goal.returns-in-err-contribution
-returns-in-err-contribution c =
-    let p = err_from_is_err_and c.from-residual.result c.from-residual.ensures.1 in
-    let left = some_left (length c.loop-rest.rest.now) (sym c.is-empty.ensures ∙ c.loop-rest-test.true) in
+pub returns-in_err-contribution : goal.returns-in_err-contribution
+returns-in_err-contribution c =
+    let p = err_from_is_err_and c.from_residual.result c.from_residual.ensures.1 in
+    let left = some_left (length c.loop-rest.rest.now) (sym c.is_empty.ensures ∙ c.loop-rest-test.true) in
     rw (p.1, p.2) (inr (begun_never c.args.text.now (vec_items c.loop-rest.contributions) c.loop-rest.rest.now c.loop-rest.invariant left
-    c.in-err-contribution.field-0.0 c.len-line.result (c.len-line.ensures ∙ c.loop-rest.contributions.ok.0)
-    c.in-err-contribution.ensures.0 c.in-err-contribution.ensures.1))
+    c.in_err-contribution.field-0.0 c.len-line.result (c.len-line.ensures ∙ c.loop-rest.contributions.ok.0)
+    c.in_err-contribution.ensures.0 c.in_err-contribution.ensures.1))
 
 pub loop-rest-preserved : goal.loop-rest-preserved
 loop-rest-preserved c =
-    let left = some_left (length c.loop-rest.rest.now) (sym c.is-empty.ensures ∙ c.loop-rest-test.true) in
+    let left = some_left (length c.loop-rest.rest.now) (sym c.is_empty.ensures ∙ c.loop-rest-test.true) in
     begun_more c.args.text.now (vec_items c.loop-rest.contributions) c.loop-rest.rest.now c.loop-rest.invariant left
-    c.in-ok-contribution.contribution c.in-ok-contribution.after.now c.in-ok-contribution.ensures
-    (vec_items c.push.new.self) c.in-ok-push.ensures.items
+    c.in_ok-contribution.contribution c.in_ok-contribution.after.now c.in_ok-contribution.ensures
+    (vec_items c.push.new.self) c.in_ok-push.ensures.items
 
 pub loop-rest-smaller : goal.loop-rest-smaller
-loop-rest-smaller c = after_shorter c.loop-rest.rest.now c.in-ok-contribution.after.now c.in-ok-contribution.contribution c.in-ok-contribution.ensures
+loop-rest-smaller c = after_shorter c.loop-rest.rest.now c.in_ok-contribution.after.now c.in_ok-contribution.contribution c.in_ok-contribution.ensures
 
 pub returns : goal.returns
 returns c =
     begun_all c.args.text.now (vec_items c.loop-rest.contributions) c.loop-rest.rest.now c.loop-rest.invariant
-    (none_left (length c.loop-rest.rest.now) (sym c.is-empty.ensures ∙ c.loop-rest-test.false))
+    (none_left (length c.loop-rest.rest.now) (sym c.is_empty.ensures ∙ c.loop-rest-test.false))

@@ -12,20 +12,20 @@ one p = p.0
 abbrev two : ℕ × ℕ → ℕ
 two p = p.1
 
-pub returns-in-err-first : goal.returns-in-err-first
-returns-in-err-first c =
-    let p = err_from_is_err_and c.from-residual.result c.from-residual.ensures.1 in
-    rw (p.1, p.2) (no_first one two Small (number_text 32) Small (number_text c.args.end) c.args.bytes.now c.in-err-first.ensures.0, c.in-err-first.ensures.1)
+pub returns-in_err-first : goal.returns-in_err-first
+returns-in_err-first c =
+    let p = err_from_is_err_and c.from_residual.result c.from_residual.ensures.1 in
+    rw (p.1, p.2) (no_first one two Small (number_text 32) Small (number_text c.args.end) c.args.bytes.now c.in_err-first.ensures.0, c.in_err-first.ensures.1)
 
-pub returns-in-err-second : goal.returns-in-err-second
-returns-in-err-second c =
-    let p = err_from_is_err_and c.from-residual-in-err-second.result c.from-residual-in-err-second.ensures.1 in
+pub returns-in_err-second : goal.returns-in_err-second
+returns-in_err-second c =
+    let p = err_from_is_err_and c.from_residual-in_err-second.result c.from_residual-in_err-second.ensures.1 in
     rw (p.1, p.2) (
-      no_second one two Small (number_text 32) Small (number_text c.args.end) c.args.bytes.now _ _ c.in-ok-first.ensures c.in-err-second.ensures.0,
-      c.in-err-second.ensures.1,
+      no_second one two Small (number_text 32) Small (number_text c.args.end) c.args.bytes.now _ _ c.in_ok-first.ensures c.in_err-second.ensures.0,
+      c.in_err-second.ensures.1,
     )
 
 pub returns : goal.returns
 returns c =
-    both one two Small (number_text 32) Small (number_text c.args.end) c.args.bytes.now _ _ c.in-ok-first.ensures _ _ c.in-ok-second.ensures
-    (c.in-ok-first.first, c.in-ok-second.second) refl refl (pair_one _ _)
+    both one two Small (number_text 32) Small (number_text c.args.end) c.args.bytes.now _ _ c.in_ok-first.ensures _ _ c.in_ok-second.ensures
+    (c.in_ok-first.first, c.in_ok-second.second) refl refl (pair_one _ _)

@@ -6,14 +6,14 @@ use Rattle.layouts.proofs.Kept.{copied_same, same_laws}
 use Rattle.layouts.proofs.Values.{vec_len_values}
 use Rattle.layouts.proofs.admission.copy_network.Goals as goal
 
-pub invariant-of-result : goal.invariant-of-result
-invariant-of-result g c =
+pub invariant_of-result : goal.invariant_of-result
+invariant_of-result g c =
     let x = c.args.layout.now in
     let s = g.L.Layout.shape x in
-    let a = c.in-ok-leaves.field-0 in
-    let u = c.in-ok-under.under in
-    let arcs = c.in-ok-leaves.ensures in
-    let rows = c.in-ok-under.ensures in
+    let a = c.in_ok-leaves.field-0 in
+    let u = c.in_ok-under.under in
+    let arcs = c.in_ok-leaves.ensures in
+    let rows = c.in_ok-under.ensures in
     let limits = and_parts (leb s.cells 512) (leb s.relations 128) c.requires in
     let same = copied_same s c.relations-relations.result (vec_items a.leaves) (vec_items a.enters) (vec_items a.leaf) (vec_items u) c.relations-relations.ensures arcs.leaves arcs.enters arcs.leaf rows in
     let laws = same_laws s (copied c.relations-relations.result (vec_items a.leaves) (vec_items a.enters) (vec_items a.leaf) (vec_items u)) same (g.met.L.Layout.lawful x) in
@@ -27,11 +27,20 @@ invariant-of-result g c =
     let left = λ (k : ℕ) (h : k < vec_len a.leaves). laws.left k (below k h) in
     let entered = λ (k : ℕ) (h : k < vec_len a.leaves). laws.entered k (below k h) in
     let apart = λ (k : ℕ) (h : k < vec_len a.leaves). laws.apart k (below k h) in
-    ((es ∙ sym ls, fs ∙ sym ls, us ∙ ap (λ n. n * n) (sym ls)), ((cells, relations), (left, (entered, (apart, (laws.itself, (laws.alone, (laws.balanced, tt))))))))
+    record {
+      level = (es ∙ sym ls, fs ∙ sym ls, us ∙ ap (λ n. n * n) (sym ls));
+      small = (cells, relations);
+      left = left;
+      entered = entered;
+      apart = apart;
+      itself = laws.itself;
+      alone = laws.alone;
+      balanced = laws.balanced;
+    }
 
 pub returns : goal.returns
 returns g c =
     let s = g.L.Layout.shape c.args.layout.now in
-    let a = c.in-ok-leaves.field-0 in
-    let arcs = c.in-ok-leaves.ensures in
-    copied_same s c.relations-relations.result (vec_items a.leaves) (vec_items a.enters) (vec_items a.leaf) (vec_items c.in-ok-under.under) c.relations-relations.ensures arcs.leaves arcs.enters arcs.leaf c.in-ok-under.ensures
+    let a = c.in_ok-leaves.field-0 in
+    let arcs = c.in_ok-leaves.ensures in
+    copied_same s c.relations-relations.result (vec_items a.leaves) (vec_items a.enters) (vec_items a.leaf) (vec_items c.in_ok-under.under) c.relations-relations.ensures arcs.leaves arcs.enters arcs.leaf c.in_ok-under.ensures

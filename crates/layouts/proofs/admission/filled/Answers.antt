@@ -11,4 +11,4 @@ filled_all {X} n m x xs e d =
     rw (e, none, less)
 
 pub returns : goal.returns
-returns g c = c.in-ok-resize.ensures.items ∙ filled_all _ _ _ _ c.new-v.ensures.items c.new-v.ensures.len
+returns g c = c.in_ok-resize.ensures.items ∙ filled_all _ _ _ _ c.new-v.ensures.items c.new-v.ensures.len

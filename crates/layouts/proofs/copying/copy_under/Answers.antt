@@ -8,4 +8,4 @@ pub loop-leaf-preserved : goal.loop-leaf-preserved
 loop-leaf-preserved g c =
     let s = g.L.Layout.shape c.args.layout.now in
     let l = c.loop-leaf.leaf in
-    c.in-ok-copy-marks.ensures ∙ ap (λ vs. vs ++ values s.cells (marks_of s l)) c.loop-leaf.invariant ∙ marks_more s l
+    c.in_ok-copy_marks.ensures ∙ ap (λ vs. vs ++ values s.cells (marks_of s l)) c.loop-leaf.invariant ∙ marks_more s l

@@ -5,8 +5,8 @@ use Rattle.std.proofs.lemmas.List.{drop_all, append-nil}
 use Rattle.page.proofs.Numbers.{digit_fits, digit_more, digit_last, filled}
 use Rattle.page.proofs.columns.write_number.Goals as goal
 
-pub overflow-sub-at : goal.overflow-sub-at
-overflow-sub-at c = omega (arith, decimal_nonempty c.args.number (omega arith))
+pub overflow_sub-at : goal.overflow_sub-at
+overflow_sub-at c = omega (arith, decimal_nonempty c.args.number (omega arith))
 
 pub loop-left-init : goal.loop-left-init
 loop-left-init c =
@@ -14,8 +14,8 @@ loop-left-init c =
     let past : length c.args.part.now ≤ length c.args.part.now - 1 + 1 = omega arith in
     (rw drop_all (sym (append-nil _)), omega arith, omega arith)
 
-pub overflow-sub-at-in-loop-left : goal.overflow-sub-at-in-loop-left
-overflow-sub-at-in-loop-left c =
+pub overflow_sub-at-in-loop-left : goal.overflow_sub-at-in-loop-left
+overflow_sub-at-in-loop-left c =
     digit_fits c.args.number c.loop-left.left c.loop-left.at c.loop-left.part c.loop-left.invariant.0 c.loop-left.invariant.1 (omega arith) c.loop-left-test.true (omega arith)
 
 pub loop-left-preserved : goal.loop-left-preserved

@@ -10,7 +10,7 @@ pub returns-in-Some : goal.returns-in-Some
 returns-in-Some c =
     let F : Figures = looked_at (arcs c.args.relations c.args.leaves.now c.args.enters.now) c.args.rows.now in
     record {
-      kept = c.exposed-at.ensures.kept ∙ c.loop-cell.invariant.0;
+      kept = c.exposed_at.ensures.kept ∙ c.loop-cell.invariant.0;
       says = sym (c.loop-cell.invariant.1 ∙ first_from_here _ c.loop-cell.cell _ c.in-Some.found c.loop-cell-test.true
           (sym (c.in-Some.ensures.says ∙ ap (λ (m : List ℕ). exposure_at F (withheld_by m) c.loop-cell.cell) c.loop-cell.invariant.0)));
     }
@@ -18,9 +18,9 @@ returns-in-Some c =
 pub loop-cell-preserved : goal.loop-cell-preserved
 loop-cell-preserved c =
     let F : Figures = looked_at (arcs c.args.relations c.args.leaves.now c.args.enters.now) c.args.rows.now in (
-      c.exposed-at.ensures.kept ∙ c.loop-cell.invariant.0,
+      c.exposed_at.ensures.kept ∙ c.loop-cell.invariant.0,
       c.loop-cell.invariant.1 ∙ first_from_more _ c.loop-cell.cell _ c.loop-cell-test.true
-          (sym (c.in-default.ensures.says ∙ ap (λ (m : List ℕ). exposure_at F (withheld_by m) c.loop-cell.cell) c.loop-cell.invariant.0)),
+          (sym (c.in_default.ensures.says ∙ ap (λ (m : List ℕ). exposure_at F (withheld_by m) c.loop-cell.cell) c.loop-cell.invariant.0)),
     )
 
 pub returns : goal.returns

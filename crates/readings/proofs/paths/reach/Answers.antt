@@ -12,14 +12,14 @@ pub loop-layer-smaller-in-Some : goal.loop-layer-smaller-in-Some
 loop-layer-smaller-in-Some c =
     omega (
       arith,
-      reached_room (arcs c.args.relations c.args.leaves.now c.args.enters.now) c.args.side (withheld_by c.args.marks.now) (at c.args.table.now) c.args.amount c.args.start c.loop-layer.layer c.loop-layer.via c.loop-layer.count c.loop-layer.from c.in-Some.cell c.far-end-next.result
-          c.requires.sound (omega arith) (omega arith) c.loop-layer.invariant c.in-Some.ensures.first c.far-end-next.ensures.end,
+      reached_room (arcs c.args.relations c.args.leaves.now c.args.enters.now) c.args.side (withheld_by c.args.marks.now) (at c.args.table.now) c.args.amount c.args.start c.loop-layer.layer c.loop-layer.via c.loop-layer.count c.loop-layer.from c.in-Some.cell c.far_end-next.result
+          c.requires.sound (omega arith) (omega arith) c.loop-layer.invariant c.in-Some.ensures.first c.far_end-next.ensures.end,
     )
 
 pub loop-layer-preserved-in-Some : goal.loop-layer-preserved-in-Some
 loop-layer-preserved-in-Some c =
-    reached_more (arcs c.args.relations c.args.leaves.now c.args.enters.now) c.args.side (withheld_by c.args.marks.now) (at c.args.table.now) c.args.amount c.args.start c.loop-layer.layer c.loop-layer.via c.loop-layer.count c.loop-layer.from c.in-Some.cell c.far-end-next.result
-    c.requires.sound (omega arith) (omega arith) c.loop-layer.invariant c.in-Some.ensures.first c.far-end-next.ensures.end
+    reached_more (arcs c.args.relations c.args.leaves.now c.args.enters.now) c.args.side (withheld_by c.args.marks.now) (at c.args.table.now) c.args.amount c.args.start c.loop-layer.layer c.loop-layer.via c.loop-layer.count c.loop-layer.from c.in-Some.cell c.far_end-next.result
+    c.requires.sound (omega arith) (omega arith) c.loop-layer.invariant c.in-Some.ensures.first c.far_end-next.ensures.end
 
 pub returns-then-from-eq0 : goal.returns-then-from-eq0
 returns-then-from-eq0 c =

@@ -9,8 +9,8 @@ use Rattle.readings.proofs.trial.trial.Goals as goal
 
 pub loop-left-init : goal.loop-left-init
 loop-left-init c =
-    trying_start (arcs c.args.relations c.args.leaves.now c.args.enters.now) c.args.side _ (figures c.args.rows.now) (needs c.args.rows.now c.args.cell) c.args.cell c.need-of-need.result (at c.copy-figures.new.table)
-    c.need-of-need.ensures (ap at c.copy-figures.ensures) c.requires.balanced
+    trying_start (arcs c.args.relations c.args.leaves.now c.args.enters.now) c.args.side _ (figures c.args.rows.now) (needs c.args.rows.now c.args.cell) c.args.cell c.need_of-need.result (at c.copy_figures.new.table)
+    c.need_of-need.ensures (ap at c.copy_figures.ensures) c.requires.balanced
 
 pub returns-else-amount-gt1 : goal.returns-else-amount-gt1
 returns-else-amount-gt1 c =

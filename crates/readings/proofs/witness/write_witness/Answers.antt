@@ -9,8 +9,8 @@ pub returns : goal.returns
 returns c = record {
   answer = search rules;
   kept = c.trial.ensures.kept;
-  written = λ _. witness_same (arcs c.args.relations c.args.leaves.now c.args.enters.now) _ _ _ c.args.cell c.args.side (at c.trial.new.table) (at c.write-front.new.memory) (omega arith)
-      (λ i l. front_inside c.args.memory.now c.trial.new.table c.write-front.new.memory c.write-front.ensures i (omega arith)) (c.if-trial.ensures.shown refl);
-  beyond = λ i l. front_beyond c.args.memory.now c.trial.new.table c.write-front.new.memory c.write-front.ensures i (omega arith);
+  written = λ _. witness_same (arcs c.args.relations c.args.leaves.now c.args.enters.now) _ _ _ c.args.cell c.args.side (at c.trial.new.table) (at c.write_front.new.memory) (omega arith)
+      (λ i l. front_inside c.args.memory.now c.trial.new.table c.write_front.new.memory c.write_front.ensures i (omega arith)) (c.if-trial.ensures.shown refl);
+  beyond = λ i l. front_beyond c.args.memory.now c.trial.new.table c.write_front.new.memory c.write_front.ensures i (omega arith);
   untouched = λ e. absurd (true≢false e);
 }

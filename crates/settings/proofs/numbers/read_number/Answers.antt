@@ -4,10 +4,10 @@ use Rattle.std.proofs.lemmas.List.{take_rest}
 use Rattle.settings.proofs.Texts.{number_none, number_some}
 use Rattle.settings.proofs.numbers.read_number.Goals as goal
 
-pub returns-in-err-number : goal.returns-in-err-number
-returns-in-err-number c = rw c.from-residual.ensures (number_none c.args.bytes.now c.args.end c.in-err-number.ensures)
+pub returns-in_err-number : goal.returns-in_err-number
+returns-in_err-number c = rw c.from_residual.ensures (number_none c.args.bytes.now c.args.end c.in_err-number.ensures)
 
 pub returns : goal.returns
 returns c =
-    number_some c.args.bytes.now c.args.end c.requires _ c.in-ok-number.at _
-    c.in-ok-number.ensures.0 c.in-ok-number.ensures.1 (take_rest c.args.bytes.now (c.in-ok-number.at + 1))
+    number_some c.args.bytes.now c.args.end c.requires _ c.in_ok-number.at _
+    c.in_ok-number.ensures.0 c.in_ok-number.ensures.1 (take_rest c.args.bytes.now (c.in_ok-number.at + 1))

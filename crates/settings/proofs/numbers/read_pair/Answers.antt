@@ -10,15 +10,15 @@ one p = p.0
 abbrev two : ℕ × ℕ → ℕ
 two p = p.1
 
-pub returns-in-err-first : goal.returns-in-err-first
-returns-in-err-first c = rw c.from-residual.ensures (no_first one two Short (number_text 32) Short (number_text c.args.end) c.args.bytes.now c.in-err-first.ensures)
+pub returns-in_err-first : goal.returns-in_err-first
+returns-in_err-first c = rw c.from_residual.ensures (no_first one two Short (number_text 32) Short (number_text c.args.end) c.args.bytes.now c.in_err-first.ensures)
 
-pub returns-in-err-second : goal.returns-in-err-second
-returns-in-err-second c =
-    rw c.from-residual-in-err-second.ensures
-    (no_second one two Short (number_text 32) Short (number_text c.args.end) c.args.bytes.now _ _ c.in-ok-first.ensures c.in-err-second.ensures)
+pub returns-in_err-second : goal.returns-in_err-second
+returns-in_err-second c =
+    rw c.from_residual-in_err-second.ensures
+    (no_second one two Short (number_text 32) Short (number_text c.args.end) c.args.bytes.now _ _ c.in_ok-first.ensures c.in_err-second.ensures)
 
 pub returns : goal.returns
 returns c =
-    both one two Short (number_text 32) Short (number_text c.args.end) c.args.bytes.now _ _ c.in-ok-first.ensures _ _ c.in-ok-second.ensures
-    (c.in-ok-first.first, c.in-ok-second.second) refl refl (pair_one _ _)
+    both one two Short (number_text 32) Short (number_text c.args.end) c.args.bytes.now _ _ c.in_ok-first.ensures _ _ c.in_ok-second.ensures
+    (c.in_ok-first.first, c.in_ok-second.second) refl refl (pair_one _ _)

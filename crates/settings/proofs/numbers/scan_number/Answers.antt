@@ -4,11 +4,11 @@ use Rattle.std.specs.Int.{IsInRange}
 use Rattle.settings.proofs.Digits.{front_below, digit_more}
 use Rattle.settings.proofs.numbers.scan_number.Goals as goal
 
-pub overflow-mul-number : goal.overflow-mul-number
-overflow-mul-number c = let b = front_below c.args.bytes.now c.loop-i.i (omega arith) c.loop-i.invariant.1 3 (omega arith) in search rules
+pub overflow_mul-number : goal.overflow_mul-number
+overflow_mul-number c = let b = front_below c.args.bytes.now c.loop-i.i (omega arith) c.loop-i.invariant.1 3 (omega arith) in search rules
 
-pub overflow-add-number : goal.overflow-add-number
-overflow-add-number c = let b = front_below c.args.bytes.now c.loop-i.i (omega arith) c.loop-i.invariant.1 3 (omega arith) in search rules
+pub overflow_add-number : goal.overflow_add-number
+overflow_add-number c = let b = front_below c.args.bytes.now c.loop-i.i (omega arith) c.loop-i.invariant.1 3 (omega arith) in search rules
 
 pub loop-i-preserved : goal.loop-i-preserved
 loop-i-preserved c =

@@ -3,16 +3,16 @@ use Rattle.std.proofs.Common.{refl, arith}
 use Rattle.readings.proofs.Lending.{lent_audit, lent_fit, refilled_hidden, refilled_kept}
 use Rattle.readings.proofs.trials.Trials.audit.Goals as goal
 
-pub first-exposed-requires : goal.first-exposed-requires
-first-exposed-requires c = record {
+pub first_exposed-requires : goal.first_exposed-requires
+first_exposed-requires c = record {
   sizes = (omega (arith, c.args.self.network.now.level.0), omega arith, omega arith, omega arith, omega arith, omega arith);
-  fit = lent_fit c.args.self.network.now c.args.self.rows.now _ _ _ _ c.as-mut-slice.ensures.value c.as-slice.ensures.value c.as-slice-2.ensures.value c.as-slice.ensures.len
+  fit = lent_fit c.args.self.network.now c.args.self.rows.now _ _ _ _ c.as_mut_slice.ensures.value c.as_slice.ensures.value c.as_slice-2.ensures.value c.as_slice.ensures.len
       c.args.self.balanced c.args.self.within c.args.self.hidden;
   fits = λ i t li lt. omega (arith, c.args.self.small i (omega arith), c.args.self.within t (omega arith), c.args.self.small t (omega arith));
 }
 
-pub invariant-of-self-2 : goal.invariant-of-self-2
-invariant-of-self-2 c = (
+pub invariant_of-self-2 : goal.invariant_of-self-2
+invariant_of-self-2 c = (
   c.args.self.celled,
   (
     c.args.self.related,
@@ -23,7 +23,7 @@ invariant-of-self-2 c = (
         (
           c.args.self.small,
           (
-            refilled_hidden c.args.self.marks.now c.as-mut-slice.result.now c.first-exposed.new.marks c.as-mut-slice.ensures.value c.as-mut-slice.ensures.len c.first-exposed.ensures.kept _ _ c.args.self.hidden,
+            refilled_hidden c.args.self.marks.now c.as_mut_slice.result.now c.first_exposed.new.marks c.as_mut_slice.ensures.value c.as_mut_slice.ensures.len c.first_exposed.ensures.kept _ _ c.args.self.hidden,
             tt,
           ),
         ),
@@ -34,8 +34,8 @@ invariant-of-self-2 c = (
 
 pub returns : goal.returns
 returns c = record {
-  says = lent_audit c.args.self.network.now c.args.self.rows.now _ _ _ _ c.as-mut-slice.ensures.value c.as-slice.ensures.value c.as-slice-2.ensures.value c.as-slice.ensures.len _
-      c.first-exposed.ensures.says;
-  kept = refilled_kept c.args.self.marks.now c.as-mut-slice.result.now c.first-exposed.new.marks c.as-mut-slice.ensures.value c.as-mut-slice.ensures.len c.first-exposed.ensures.kept;
+  says = lent_audit c.args.self.network.now c.args.self.rows.now _ _ _ _ c.as_mut_slice.ensures.value c.as_slice.ensures.value c.as_slice-2.ensures.value c.as_slice.ensures.len _
+      c.first_exposed.ensures.says;
+  kept = refilled_kept c.args.self.marks.now c.as_mut_slice.result.now c.first_exposed.new.marks c.as_mut_slice.ensures.value c.as_mut_slice.ensures.len c.first_exposed.ensures.kept;
   lengths = (refl, refl, refl, refl);
 }

@@ -101,7 +101,7 @@ audit_right_lem F withheld fit = record {
   names = λ c side e. let w = named F withheld fit c side e in told_exposed F withheld fit c w.inside side w.told;
   first = λ c side e b l h other. let w = named F withheld fit c side e in not_told_hidden F withheld fit b (omega (arith, w.inside)) h other (w.before b l other);
   up_first = λ c e. let w = named F withheld fit c Down e in
-      not_told_hidden F withheld fit c w.inside (and_parts (sensitive F.need c) _ w.told).0 Up (w.not-up refl);
+      not_told_hidden F withheld fit c w.inside (and_parts (sensitive F.need c) _ w.told).0 Up (w.not_up refl);
 }
 
 -- What the trials of one cell say of it.

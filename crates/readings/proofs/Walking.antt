@@ -97,12 +97,12 @@ module _ (sh : Shape) (pass : ℕ → Bool) (y : ℕ → ℕ) (d : ℕ) (layer :
     pub walked_raise : a ≡ r → Walked sh pass y d layer goal b (at (set xs c (get_or xs c 0 + d))) × (b < sh.relations) × (layer b < sh.relations)
     walked_raise e =
         let g = step_raise (sym at_a ∙ e) in
-        (subst (λ p. Walked sh pass y d layer goal p (at (set xs c (get_or xs c 0 + d)))) (sym at_b) g.walked, omega (arith, g.inside), omega (arith, g.is-reached, ap layer at_b))
+        (subst (λ p. Walked sh pass y d layer goal p (at (set xs c (get_or xs c 0 + d)))) (sym at_b) g.walked, omega (arith, g.inside), omega (arith, g.is_reached, ap layer at_b))
 
     pub walked_lower : (a ≡ r → ⊥) → Walked sh pass y d layer goal a (at (set xs c (get_or xs c 0 - d))) × (a < sh.relations) × (layer a < sh.relations)
     walked_lower ne =
         let g = step_lower (λ e. ne (at_a ∙ e)) in
-        (subst (λ p. Walked sh pass y d layer goal p (at (set xs c (get_or xs c 0 - d)))) (sym at_a) g.walked, omega (arith, g.inside), omega (arith, g.is-reached, ap layer at_a))
+        (subst (λ p. Walked sh pass y d layer goal p (at (set xs c (get_or xs c 0 - d)))) (sym at_a) g.walked, omega (arith, g.inside), omega (arith, g.is_reached, ap layer at_a))
 
 -- The walk is over, and the tried cell is changed too: the table balances again.
 module _ (sh : Shape) (pass : ℕ → Bool) (t d : ℕ) (y : ℕ → ℕ) (layer : ℕ → ℕ) (xs : List ℕ) (l : t < sh.cells) (lx : sh.cells ≤ length xs) (f : pass t ≡ false) where

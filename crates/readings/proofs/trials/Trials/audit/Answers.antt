@@ -12,25 +12,14 @@ first_exposed-requires c = record {
 }
 
 pub invariant_of-self-2 : goal.invariant_of-self-2
-invariant_of-self-2 c = (
-  c.args.self.celled,
-  (
-    c.args.self.related,
-    (
-      c.args.self.balanced,
-      (
-        c.args.self.within,
-        (
-          c.args.self.small,
-          (
-            refilled_hidden c.args.self.marks.now c.as_mut_slice.result.now c.first_exposed.new.marks c.as_mut_slice.ensures.value c.as_mut_slice.ensures.len c.first_exposed.ensures.kept _ _ c.args.self.hidden,
-            tt,
-          ),
-        ),
-      ),
-    ),
-  ),
-)
+invariant_of-self-2 c = record {
+  celled = c.args.self.celled;
+  related = c.args.self.related;
+  balanced = c.args.self.balanced;
+  within = c.args.self.within;
+  small = c.args.self.small;
+  hidden = refilled_hidden c.args.self.marks.now c.as_mut_slice.result.now c.first_exposed.new.marks c.as_mut_slice.ensures.value c.as_mut_slice.ensures.len c.first_exposed.ensures.kept _ _ c.args.self.hidden;
+}
 
 pub returns : goal.returns
 returns c = record {

@@ -17,8 +17,8 @@ fn tell_chain<R: Rule>(rule: &mut R, records: &[Record], heads: &[usize], leaf: 
     requires inside { leaf < length heads.now }
     ensures sum { result ≡ sum (chain_of records.now leaf) }
     ensures bound { result ≤ 2048000000000 }
-    ensures told { (xs : List ℕ) → stands rule.old xs → length xs + length (chain_of records.now leaf) ≤ 2048 → stands rule.new (xs ++ chain_of records.now leaf) }
-    ensures same { (xs : List ℕ) → meaning rule.new xs ≡ meaning rule.old xs }
+    ensures told { (xs : List ℕ) → R.stands rule.old xs → length xs + length (chain_of records.now leaf) ≤ 2048 → R.stands rule.new (xs ++ chain_of records.now leaf) }
+    ensures same { (xs : List ℕ) → R.meaning rule.new xs ≡ R.meaning rule.old xs }
 {
     let mut sum = 0;
     let mut link = heads[leaf];
@@ -54,8 +54,8 @@ fn settle_cell<R: Rule>(
     requires chained { Chained records.now heads.now }
     requires wide { length heads.now ≡ vec_len network.now.leaves }
     requires inside { cell < length heads.now }
-    ensures row { result ≡ settled_row (shape_of network.now) (meaning rule.old) (held records.now) cell }
-    ensures same { (xs : List ℕ) → meaning rule.new xs ≡ meaning rule.old xs }
+    ensures row { result ≡ settled_row (shape_of network.now) (R.meaning rule.old) (held records.now) cell }
+    ensures same { (xs : List ℕ) → R.meaning rule.new xs ≡ R.meaning rule.old xs }
 {
     rule.begin();
     let cells = heads.len();
@@ -80,7 +80,7 @@ fn settle_rows<R: Rule>(
 )
     requires chained { Chained records.now heads.now }
     requires wide { (length heads.now ≡ vec_len network.now.leaves) × (length rows.old ≡ length heads.now) }
-    ensures { rows.new ≡ settled_rows (shape_of network.now) (meaning rule.old) (held records.now) }
+    ensures { rows.new ≡ settled_rows (shape_of network.now) (R.meaning rule.old) (held records.now) }
 {
     for cell in 0..heads.len() {
         rows[cell] = settle_cell(rule, network, records, heads, cell);
@@ -91,7 +91,7 @@ impl<R: Rule + Drop> Intake<R> {
     // Uses the intake up, and gives each cell its figure and its need.
     pub fn settle(self) -> Settled
         ensures network { result.network ≡ self.network }
-        ensures rows { result.rows.items ≡ settled_rows (shape_of self.network) (meaning self.rule) (held self.memory.records.items) }
+        ensures rows { result.rows.items ≡ settled_rows (shape_of self.network) (R.meaning self.rule) (held self.memory.records.items) }
     {
         let Intake {
             mut rule,

@@ -49,8 +49,8 @@ loop-link-init c =
       c.loop-cell.invariant.2,
     )
 
-pub push-reserved-requires : goal.push-reserved-requires
-push-reserved-requires c =
+pub push_reserved-requires : goal.push_reserved-requires
+push_reserved-requires c =
     let seen = c.loop-link.seen in
     let some : c.loop-link.link - 1 < length seen = omega (arith, c.loop-link-test.true, c.if-link-records.false, c.loop-link.auto.seen, c.loop-cell.auto.seen) in
     omega (arith, unseen_set seen (c.loop-link.link - 1) some c.if-seen-link.false, c.loop-link.invariant.1, c.loop-link.invariant.2, c.requires.room.0)
@@ -74,7 +74,7 @@ loop-link-preserved c =
     let some : l - 1 < length seen = omega (arith, c.loop-link-test.true, c.if-link-records.false, c.loop-link.auto.seen, c.loop-cell.auto.seen) in
     let cells = cells_are n c.len-cells.result c.len-cells.ensures in
     let x : c.contribution-x.result ≡ contribution s.cells b i l = c.contribution-x.ensures ∙ ap (λ m. contribution m b i l) cells in
-    let small : (contribution s.cells b i l).amount ≤ 1000000000 = omega (arith, ap (λ y. y.amount) x, c.if-x-gt-LARGEST-AMOUNT.false) in
+    let small : (contribution s.cells b i l).amount ≤ 1000000000 = omega (arith, ap (λ y. y.amount) x, c.if-x-gt-LARGEST_AMOUNT.false) in
     let rest = walk s b q (k - (i + 1)) (i + 1) in
     let place : 4 + c.len-cells.result + 3 * (l - 1) ≡ record_place s.cells l + 2 = omega arith in
     let on : c.word-link-in-loop-link.result ≡ next s.cells b l = c.word-link-in-loop-link.ensures ∙ ap (word b) place in
@@ -84,10 +84,10 @@ loop-link-preserved c =
           ∙ ap (after_these (vec_items c.loop-link.pending)) step
           ∙ after_more (vec_items c.loop-link.pending) (contribution s.cells b i l ∷ []) tail
           ∙ ap (λ y. after_these (vec_items c.loop-link.pending ++ y ∷ []) tail) (sym x)
-          ∙ ap (λ ys. after_these ys tail) (sym c.push-reserved.ensures.items)
-          ∙ ap (λ m. after_these (vec_items c.push-reserved.new.self) (chain s b q (unseen (set seen (l - 1) true)) i (set seen (l - 1) true) m rest)) (sym on),
-      omega (arith, unseen_set seen (l - 1) some c.if-seen-link.false, c.loop-link.invariant.1, c.push-reserved.ensures.len),
-      omega (arith, c.push-reserved.ensures.capacity, c.loop-link.invariant.2),
+          ∙ ap (λ ys. after_these ys tail) (sym c.push_reserved.ensures.items)
+          ∙ ap (λ m. after_these (vec_items c.push_reserved.new.self) (chain s b q (unseen (set seen (l - 1) true)) i (set seen (l - 1) true) m rest)) (sym on),
+      omega (arith, unseen_set seen (l - 1) some c.if-seen-link.false, c.loop-link.invariant.1, c.push_reserved.ensures.len),
+      omega (arith, c.push_reserved.ensures.capacity, c.loop-link.invariant.2),
     )
 
 pub loop-cell-preserved : goal.loop-cell-preserved
@@ -149,8 +149,8 @@ returns-then-seen-link c =
       many = λ e. absurd (true≢false e);
     }
 
-pub returns-then-x-gt-LARGEST-AMOUNT : goal.returns-then-x-gt-LARGEST-AMOUNT
-returns-then-x-gt-LARGEST-AMOUNT c =
+pub returns-then-x-gt-LARGEST_AMOUNT : goal.returns-then-x-gt-LARGEST_AMOUNT
+returns-then-x-gt-LARGEST_AMOUNT c =
     let n = c.args.network.now in
     let s = shape_of n in
     let i = c.loop-cell.cell in
@@ -162,7 +162,7 @@ returns-then-x-gt-LARGEST-AMOUNT c =
     let some : l - 1 < length seen = omega (arith, c.loop-link-test.true, c.if-link-records.false, c.loop-link.auto.seen, c.loop-cell.auto.seen) in
     let cells = cells_are n c.len-cells.result c.len-cells.ensures in
     let x : c.contribution-x.result ≡ contribution s.cells b i l = c.contribution-x.ensures ∙ ap (λ m. contribution m b i l) cells in
-    let large : 1000000000 < (contribution s.cells b i l).amount = omega (arith, ap (λ y. y.amount) x, c.if-x-gt-LARGEST-AMOUNT.true) in
+    let large : 1000000000 < (contribution s.cells b i l).amount = omega (arith, ap (λ y. y.amount) x, c.if-x-gt-LARGEST_AMOUNT.true) in
     record {
       walked = c.loop-cell.invariant.0 ∙ c.loop-link.invariant.0
           ∙ ap (after_these (vec_items c.loop-link.pending)) (chain_large s b q i seen l (walk s b q (k - (i + 1)) (i + 1)) c.loop-link-test.true c.if-link-records.false some c.if-seen-link.false large);

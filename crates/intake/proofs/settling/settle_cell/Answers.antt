@@ -31,11 +31,11 @@ loop-leaf-init g c =
     let none : length c.args.heads.now - 0 ≡ length c.args.heads.now = omega arith in
     (omega arith, λ xs. refl, ([], rw none, refl, c.begin.ensures.stands))
 
-pub overflow-add-figure : goal.overflow-add-figure
-overflow-add-figure g c =
+pub overflow_add-figure : goal.overflow_add-figure
+overflow_add-figure g c =
     let small = c.args.network.now.small.0 in
     let wide = c.requires.wide in
-    omega (arith, c.loop-leaf.invariant.0, c.tell-chain-figure.ensures.bound)
+    omega (arith, c.loop-leaf.invariant.0, c.tell_chain-figure.ensures.bound)
 
 pub loop-leaf-preserved : goal.loop-leaf-preserved
 loop-leaf-preserved g c =
@@ -57,7 +57,7 @@ loop-leaf-preserved g c =
           let step = more ∙ ap (λ b. cond b chain [] ++ after) yes in
           let all' = told_chain _ told chain _ after all step in
           let room = told_room _ told chain after (whole_short (shape_of n) rs hs c.requires.chained c.args.cell) all' in
-          let said = w.tell-chain-figure.ensures in (
+          let said = w.tell_chain-figure.ensures in (
             omega (arith, w.figure-is, said.bound, inv.0),
             λ xs. ap (λ r. g.R.Rule.meaning r xs) w.rule-is ∙ said.same xs ∙ inv.1 xs,
             (
@@ -93,4 +93,4 @@ returns g c =
     let figure = inv.2.2 ∙ ap sum told ∙ whole_sum s rs hs c.requires.chained c.args.cell in
     let needed = c.need-need.ensures inv.2.0 inv.2.3 ∙ same inv.2.0 ∙ ap (g.R.Rule.meaning c.args.rule.now) told
     ∙ g.met.R.Rule.order c.args.rule.now _ _ (whole_shuffled s rs hs c.requires.chained c.args.cell) in
-    record { row = row_made s (g.R.Rule.meaning c.args.rule.now) (held rs) c.args.cell _ _ figure needed _ c.mark-of-mark.ensures; same = same }
+    record { row = row_made s (g.R.Rule.meaning c.args.rule.now) (held rs) c.args.cell _ _ figure needed _ c.mark_of-mark.ensures; same = same }

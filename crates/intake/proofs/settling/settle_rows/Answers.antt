@@ -18,9 +18,9 @@ loop-cell-preserved g c =
     let i = c.loop-cell.cell in
     let inv = c.loop-cell.invariant in
     let h : i < length c.loop-cell.rows = omega (arith, c.loop-cell.auto.rows, c.requires.wide.1) in
-    let row = c.settle-cell.ensures.row ∙ row_meaning s (g.R.Rule.meaning c.loop-cell.rule) m xs i inv.1 in (
-      values_push [] (take i c.loop-cell.rows) _ i (settled_row s m xs) c.settle-cell.result inv.0 (take_more_set c.loop-cell.rows i c.settle-cell.result h) row,
-      λ ys. c.settle-cell.ensures.same ys ∙ inv.1 ys,
+    let row = c.settle_cell.ensures.row ∙ row_meaning s (g.R.Rule.meaning c.loop-cell.rule) m xs i inv.1 in (
+      values_push [] (take i c.loop-cell.rows) _ i (settled_row s m xs) c.settle_cell.result inv.0 (take_more_set c.loop-cell.rows i c.settle_cell.result h) row,
+      λ ys. c.settle_cell.ensures.same ys ∙ inv.1 ys,
     )
 
 pub returns : goal.returns

@@ -27,8 +27,8 @@ loop-link-smaller g c =
     let inv = c.loop-link.invariant in
     omega (arith, next_before c.args.records.now c.args.heads.now c.requires.chained c.args.leaf c.loop-link.link c.loop-link-test.true inv.0 inv.1)
 
-pub overflow-add-sum : goal.overflow-add-sum
-overflow-add-sum g c =
+pub overflow_add-sum : goal.overflow_add-sum
+overflow_add-sum g c =
     let inv = c.loop-link.invariant in
     let few = c.requires.chained.few in
     omega (arith, amount_small c.args.records.now c.args.heads.now c.requires.chained c.args.leaf c.loop-link.link c.loop-link-test.true inv.0 inv.1)

@@ -11,13 +11,13 @@ use Rattle.intake.proofs.held.Intake.enter.Goals as goal
 inside : (n : Network) (l : ℕ) → l < vec_len n.leaves → l < (shape_of n).cells
 inside n l h = omega (arith, network_cells n)
 
-pub returns-then-len-ge-MOST-CONTRIBUTIONS : goal.returns-then-len-ge-MOST-CONTRIBUTIONS
-returns-then-len-ge-MOST-CONTRIBUTIONS g c =
+pub returns-then-len-ge-MOST_CONTRIBUTIONS : goal.returns-then-len-ge-MOST_CONTRIBUTIONS
+returns-then-len-ge-MOST_CONTRIBUTIONS g c =
     let n = c.args.self.now.network in
     let l = c.args.x.leaf in
     let h : l < vec_len n.leaves = omega arith in
     record {
-      answer = too_many (shape_of n) _ c.args.x (inside n l h) (leaf_marked n l _ true h c.index.ensures c.if-not-index.false) c.if-x-gt-LARGEST-AMOUNT.false
+      answer = too_many (shape_of n) _ c.args.x (inside n l h) (leaf_marked n l _ true h c.index.ensures c.if-not-index.false) c.if-x-gt-LARGEST_AMOUNT.false
           (omega (arith, held_count c.args.self.now.memory.records));
       held = refl;
       same = (refl, refl);
@@ -30,7 +30,7 @@ append-requires g c =
     let l = c.args.x.leaf in
     let h : l < vec_len n.leaves = omega arith in (
       and_from (ltb l (shape_of n).cells) ((shape_of n).leaf l) (lt-ltb l (shape_of n).cells (inside n l h)) (leaf_marked n l _ true h c.index.ensures c.if-not-index.false),
-      c.if-x-gt-LARGEST-AMOUNT.false,
+      c.if-x-gt-LARGEST_AMOUNT.false,
       omega arith,
     )
 
@@ -40,7 +40,7 @@ returns g c =
     let l = c.args.x.leaf in
     let h : l < vec_len n.leaves = omega arith in
     record {
-      answer = ap Ok c.append.ensures.number ∙ accepts (shape_of n) _ c.args.x (inside n l h) (leaf_marked n l _ true h c.index.ensures c.if-not-index.false) c.if-x-gt-LARGEST-AMOUNT.false
+      answer = ap Ok c.append.ensures.number ∙ accepts (shape_of n) _ c.args.x (inside n l h) (leaf_marked n l _ true h c.index.ensures c.if-not-index.false) c.if-x-gt-LARGEST_AMOUNT.false
           (omega (arith, held_count c.args.self.now.memory.records));
       held = c.append.ensures.held;
       same = (c.append.ensures.same.0, c.append.ensures.same.1);

@@ -26,13 +26,13 @@ walked_same : (n : Network) (bytes : List ℕ) (q : ℕ) (r : Result (List Contr
     → walk (shape_of n) bytes q (vec_len n.leaves) 0 (replicate q false) ≡ r → walk (shape_of n) bytes q (shape_of n).cells 0 (replicate q false) ≡ r
 walked_same n bytes q r e = ap (λ k. walk (shape_of n) bytes q k 0 (replicate q false)) (network_cells n) ∙ e
 
-pub returns-in-err-records : goal.returns-in-err-records
-returns-in-err-records g c =
+pub returns-in_err-records : goal.returns-in_err-records
+returns-in_err-records g c =
     let s = c.args.self.now in
     let b = c.args.bytes.now in
-    let p = err_from_is_err_and c.from-residual.result c.from-residual.ensures.1 in
-    let x = c.in-err-records.field-0.0 in
-    let is = counted_same s.network s.memory.records _ _ b c.len.ensures c.len-2.ensures ∙ sym c.in-err-records.ensures in
+    let p = err_from_is_err_and c.from_residual.result c.from_residual.ensures.1 in
+    let x = c.in_err-records.field-0.0 in
+    let is = counted_same s.network s.memory.records _ _ b c.len.ensures c.len-2.ensures ∙ sym c.in_err-records.ensures in
     let d = deposit_refused (shape_of s.network) (length (held (vec_items s.memory.records))) b x is in
     record {
       answer = p.1 ∙ ap Err p.2 ∙ ap (λ r. load_answer r b) (sym d);
@@ -41,10 +41,10 @@ returns-in-err-records g c =
       untouched = λ _. (refl, refl);
     }
 
-pub read-chains-requires : goal.read-chains-requires
-read-chains-requires g c =
+pub read_chains-requires : goal.read_chains-requires
+read_chains-requires g c =
     let s = c.args.self.now in
-    let fits = counted_fits _ _ c.args.bytes.now c.in-ok-records.records (sym c.in-ok-records.ensures) in
+    let fits = counted_fits _ _ c.args.bytes.now c.in_ok-records.records (sym c.in_ok-records.ensures) in
     record {
       sizes = (omega (arith, fits.0, c.len.ensures), omega (arith, fits.1));
       room = (s.room.2, s.room.1);
@@ -54,8 +54,8 @@ pub returns-in-Some : goal.returns-in-Some
 returns-in-Some g c =
     let s = c.args.self.now in
     let b = c.args.bytes.now in
-    let q = c.in-ok-records.records in
-    let is = counted_same s.network s.memory.records _ _ b c.len.ensures c.len-2.ensures ∙ sym c.in-ok-records.ensures in
+    let q = c.in_ok-records.records in
+    let is = counted_same s.network s.memory.records _ _ b c.len.ensures c.len-2.ensures ∙ sym c.in_ok-records.ensures in
     let d = deposit_walked (shape_of s.network) (length (held (vec_items s.memory.records))) b q (Err c.in-Some.fault) is (walked_same s.network b q _ c.in-Some.ensures.walked) in
     record {
       answer = ap (λ r. load_answer r b) (sym d);
@@ -64,13 +64,13 @@ returns-in-Some g c =
       untouched = λ _. (refl, refl);
     }
 
-pub enter-pending-requires : goal.enter-pending-requires
-enter-pending-requires g c =
+pub enter_pending-requires : goal.enter_pending-requires
+enter_pending-requires g c =
     let s = c.args.self.now in
     let b = c.args.bytes.now in
-    let q = c.in-ok-records.records in
-    let said = c.in-default.ensures in
-    let fits = counted_fits _ _ b q (sym c.in-ok-records.ensures) in
+    let q = c.in_ok-records.records in
+    let said = c.in_default.ensures in
+    let fits = counted_fits _ _ b q (sym c.in_ok-records.ensures) in
     record {
       good = walk_good (shape_of s.network) b q (vec_len s.network.leaves) 0 (replicate q false) _ (omega (arith, network_cells s.network)) said.walked;
       room = omega (arith, fits.1, said.many refl, c.len-2.ensures);
@@ -80,14 +80,14 @@ pub returns : goal.returns
 returns g c =
     let s = c.args.self.now in
     let b = c.args.bytes.now in
-    let q = c.in-ok-records.records in
-    let said = c.in-default.ensures in
-    let is = counted_same s.network s.memory.records _ _ b c.len.ensures c.len-2.ensures ∙ sym c.in-ok-records.ensures in
+    let q = c.in_ok-records.records in
+    let said = c.in_default.ensures in
+    let is = counted_same s.network s.memory.records _ _ b c.len.ensures c.len-2.ensures ∙ sym c.in_ok-records.ensures in
     let d = deposit_walked (shape_of s.network) (length (held (vec_items s.memory.records))) b q _ is (walked_same s.network b q _ said.walked) in
-    let fits = counted_fits _ _ b q (sym c.in-ok-records.ensures) in
+    let fits = counted_fits _ _ b q (sym c.in_ok-records.ensures) in
     record {
       answer = ap Ok fits.2 ∙ ap (λ r. load_answer r b) (sym d);
-      held = c.enter-pending.ensures.held ∙ ap (λ r. held_then r (held (vec_items s.memory.records))) (sym d);
-      same = c.enter-pending.ensures.same;
+      held = c.enter_pending.ensures.held ∙ ap (λ r. held_then r (held (vec_items s.memory.records))) (sym d);
+      same = c.enter_pending.ensures.same;
       untouched = λ e. absurd (true≢false e);
     }

@@ -5,13 +5,22 @@ use Rattle.layouts.proofs.Fresh.{admitted_fresh}
 use Rattle.intake.specs.Chains.{held, latest, leaf_list}
 use Rattle.intake.proofs.held.Intake.open.Goals as goal
 
-pub invariant-of-result : goal.invariant-of-result
-invariant-of-result g c =
+pub invariant_of-result : goal.invariant_of-result
+invariant_of-result g c =
     let a = c.args.admitted in
     let fresh = admitted_fresh a in
     let none : vec_len a.memory.records ≡ 0 = a.bare.0 in
     let heads = λ (l : ℕ) (h : l < vec_len a.network.leaves). ap (λ xs. get_or xs l 0) fresh.heads ∙ get_or-replicate (vec_len a.network.leaves) l 0 0 h ∙ ap (latest l (leaf_list (held (vec_items a.memory.records)))) (sym none) in
-    (omega arith, ((fresh.room, fresh.pending_room, a.related.2), ((λ i h. absurd (omega arith)), ((λ i h. absurd (omega arith)), (heads, ((λ i h. absurd (omega arith)), (a.celled, ((a.related.0, a.related.1), tt))))))))
+    record {
+      few = omega arith;
+      room = (fresh.room, fresh.pending_room, a.related.2);
+      leafy = λ i h. absurd (omega arith);
+      small = λ i h. absurd (omega arith);
+      headed = heads;
+      linked = λ i h. absurd (omega arith);
+      celled = a.celled;
+      related = (a.related.0, a.related.1);
+    }
 
 pub returns : goal.returns
 returns g c = record { none = ap held (admitted_fresh c.args.admitted).records; network = refl; rule = refl }

@@ -18,8 +18,8 @@ use Rattle.intake.proofs.held.Intake.settle.Goals as goal
 leaf_inside : (n : Network) (l : ℕ) → is_leaf (shape_of n) l ≡ true → l < vec_len n.leaves
 leaf_inside n l e = omega (arith, network_cells n, ltb-true l (shape_of n).cells (and_parts (ltb l (shape_of n).cells) ((shape_of n).leaf l) e).0)
 
-pub settle-rows-requires : goal.settle-rows-requires
-settle-rows-requires g c =
+pub settle_rows-requires : goal.settle_rows-requires
+settle_rows-requires g c =
     let s = c.args.self in
     let rs = c.deref.result.now in
     let hs = c.deref-2.result.now in
@@ -30,11 +30,11 @@ settle-rows-requires g c =
     (λ i h. leaf_inside s.network _ (s.leafy i h)) s.small s.headed s.linked in
     record {
       chained = rw (er, eh) chained;
-      wide = (c.deref-2.ensures.len ∙ s.celled.0, c.deref-mut.ensures.len ∙ s.celled.1 ∙ sym (c.deref-2.ensures.len ∙ s.celled.0));
+      wide = (c.deref-2.ensures.len ∙ s.celled.0, c.deref_mut.ensures.len ∙ s.celled.1 ∙ sym (c.deref-2.ensures.len ∙ s.celled.0));
     }
 
-pub invariant-of-result : goal.invariant-of-result
-invariant-of-result g c =
+pub invariant_of-result : goal.invariant_of-result
+invariant_of-result g c =
     let s = c.args.self in
     let n = s.network in
     let sh = shape_of n in
@@ -42,33 +42,24 @@ invariant-of-result g c =
     let m = g.R.Rule.meaning s.rule in
     let laws = network_laws n in
     let bound = g.met.R.Rule.bound s.rule in
-    let ls = c.settle-rows.new.rows in
-    let settled : ls ≡ settled_rows sh m xs = c.settle-rows.ensures ∙ ap (λ rs. settled_rows sh m (held rs)) c.deref.ensures.value in
+    let ls = c.settle_rows.new.rows in
+    let settled : ls ≡ settled_rows sh m xs = c.settle_rows.ensures ∙ ap (λ rs. settled_rows sh m (held rs)) c.deref.ensures.value in
     let many : length xs ≡ vec_len s.memory.records = held_count s.memory.records in
     let at : AtLeaves sh xs = λ i h. s.leafy i (omega arith) in
     let small = λ (i : ℕ) (h : i < length xs). s.small i (omega arith) in
     let cells = network_cells n in
     let long : length ls ≡ vec_len s.memory.rows = rows_long sh laws m bound xs at ls settled ∙ cells ∙ sym s.celled.1 in
     let e = take_at ls (drop (length ls) (vec_items s.memory.rows)) (vec_len s.memory.rows) long ∙ settled in
-    let inside = λ (k : ℕ) (h : k < vec_len n.leaves). subst (λ z. k < z) (sym cells) h in (
-      (s.celled.1, s.celled.2, s.celled.3),
-      (
-        s.related,
-        (
-          rows_balance sh laws m bound xs at _ e,
-          (
-            (λ k h. need_within sh laws m bound xs at _ e k (inside k h)),
-            (
-              (λ k h. rows_small sh laws m bound xs at _ e small (omega (arith, s.few)) k (inside k h)),
-              (
-                (λ k h. rows_begun sh laws m bound xs at _ e k (inside k h)),
-                ((λ k h t. subst (λ z. any_below z (is_under sh k) ≡ true) cells (rows_grounded sh laws m bound xs at _ e k (inside k h) t)), tt),
-              ),
-            ),
-          ),
-        ),
-      ),
-    )
+    let inside = λ (k : ℕ) (h : k < vec_len n.leaves). subst (λ z. k < z) (sym cells) h in
+    record {
+      celled = (s.celled.1, s.celled.2, s.celled.3);
+      related = s.related;
+      balanced = rows_balance sh laws m bound xs at _ e;
+      within = λ k h. need_within sh laws m bound xs at _ e k (inside k h);
+      small = λ k h. rows_small sh laws m bound xs at _ e small (omega (arith, s.few)) k (inside k h);
+      begun = λ k h. rows_begun sh laws m bound xs at _ e k (inside k h);
+      grounded = λ k h t. subst (λ z. any_below z (is_under sh k) ≡ true) cells (rows_grounded sh laws m bound xs at _ e k (inside k h) t);
+    }
 
 pub returns : goal.returns
 returns g c =
@@ -77,7 +68,7 @@ returns g c =
     let sh = shape_of n in
     let xs = held (vec_items s.memory.records) in
     let m = g.R.Rule.meaning s.rule in
-    let ls = c.settle-rows.new.rows in
-    let settled : ls ≡ settled_rows sh m xs = c.settle-rows.ensures ∙ ap (λ rs. settled_rows sh m (held rs)) c.deref.ensures.value in
+    let ls = c.settle_rows.new.rows in
+    let settled : ls ≡ settled_rows sh m xs = c.settle_rows.ensures ∙ ap (λ rs. settled_rows sh m (held rs)) c.deref.ensures.value in
     let long : length ls ≡ vec_len s.memory.rows = ap length settled ∙ length_values sh.cells (settled_row sh m xs) ∙ network_cells n ∙ sym s.celled.1 in
     record { network = refl; rows = take_at ls (drop (length ls) (vec_items s.memory.rows)) (vec_len s.memory.rows) long ∙ settled }

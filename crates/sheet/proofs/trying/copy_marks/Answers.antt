@@ -10,7 +10,7 @@ loop-cell-preserved c =
     below_more _ _
     (λ k h. let ne : k ≢ c.loop-cell.cell = omega arith in rw get_or-set_other (c.loop-cell.invariant k h))
     (get_or-set_same c.loop-cell.marks c.loop-cell.cell _ 0 (omega arith)
-    ∙ c.byte-of.ensures
+    ∙ c.byte_of.ensures
     ∙ sym (get_or-map (λ (r : Row). byte_of_mark c.args.«open» r.mark) c.args.rows.now c.loop-cell.cell _ 0 (omega arith)))
 
 pub returns : goal.returns

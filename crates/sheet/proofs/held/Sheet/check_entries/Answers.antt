@@ -23,8 +23,8 @@ returns-then-cell-cells c =
     sym (ap (λ o. answered o tt)
     (list_short F st l c.if-cells-gt-ENTRIES.false ∙ c.loop-cell.invariant ∙ entry_unknown F st l i c.loop-cell-test.true (omega arith)))
 
-pub returns-then-is-printed : goal.returns-then-is-printed
-returns-then-is-printed c =
+pub returns-then-is_printed : goal.returns-then-is_printed
+returns-then-is_printed c =
     let F : Figures = figures_of c.args.self.now in
     let st : Standing = stands c.args.self.now in
     let l = c.args.cells.now in
@@ -32,7 +32,7 @@ returns-then-is-printed c =
     sym (ap (λ o. answered o tt)
     (list_short F st l c.if-cells-gt-ENTRIES.false ∙ c.loop-cell.invariant
     ∙ entry_printed F st l i c.loop-cell-test.true (omega arith)
-    (ap is_printed_mark (mark_of (rows_of c.args.self.now) (get_or l i 0)) ∙ ap (λ (r : Row). is_printed_mark r.mark) (sym c.row.ensures) ∙ sym c.if-is-printed.ensures)))
+    (ap is_printed_mark (mark_of (rows_of c.args.self.now) (get_or l i 0)) ∙ ap (λ (r : Row). is_printed_mark r.mark) (sym c.row.ensures) ∙ sym c.if-is_printed.ensures)))
 
 pub loop-cell-preserved : goal.loop-cell-preserved
 loop-cell-preserved c =
@@ -42,7 +42,7 @@ loop-cell-preserved c =
     let i = c.loop-cell.cell-index in
     c.loop-cell.invariant
     ∙ entry_more F st l i c.loop-cell-test.true (omega arith)
-    (ap is_printed_mark (mark_of (rows_of c.args.self.now) (get_or l i 0)) ∙ ap (λ (r : Row). is_printed_mark r.mark) (sym c.row.ensures) ∙ sym c.if-is-printed.ensures)
+    (ap is_printed_mark (mark_of (rows_of c.args.self.now) (get_or l i 0)) ∙ ap (λ (r : Row). is_printed_mark r.mark) (sym c.row.ensures) ∙ sym c.if-is_printed.ensures)
 
 pub returns : goal.returns
 returns c =

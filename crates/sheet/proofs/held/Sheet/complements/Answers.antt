@@ -7,7 +7,7 @@ use Rattle.sheet.specs.Sheets.{figures_of, stands, rows_of}
 use Rattle.sheet.specs.Standing.{is_complement_mark}
 use Rattle.sheet.proofs.Marking.{mark_of}
 use Rattle.sheet.proofs.held.Sheet.complements.Goals as goal
-use Rattle.sheet.proofs.held.Sheet.complements.Goals.{then-is-complement, else-is-complement}
+use Rattle.sheet.proofs.held.Sheet.complements.Goals.{then-is_complement, else-is_complement}
 
 pub loop-cell-preserved : goal.loop-cell-preserved
 loop-cell-preserved c =
@@ -16,12 +16,12 @@ loop-cell-preserved c =
     let more = sum_more i (λ k. cond ((stands s).complement k) 1 0) in
     let is : (stands s).complement i ≡ is_complement_mark c.row.result.mark =
     ap is_complement_mark (mark_of (rows_of s) i) ∙ ap (λ (r : Row). is_complement_mark r.mark) (sym c.row.ensures) in
-    elim c.if-is-complement.branch [
-      | then-is-complement w ↦
-          let one : ◌≡◌ {A = ℕ} (cond ((stands s).complement i) 1 0) 1 = ap (λ b. cond b 1 0) (is ∙ sym w.if-is-complement.ensures) in
+    elim c.if-is_complement.branch [
+      | then-is_complement w ↦
+          let one : ◌≡◌ {A = ℕ} (cond ((stands s).complement i) 1 0) 1 = ap (λ b. cond b 1 0) (is ∙ sym w.if-is_complement.ensures) in
           (omega (arith, w.count-is, more, one, c.loop-cell.invariant.0), omega (arith, w.count-is, c.loop-cell.invariant.1))
-      | else-is-complement w ↦
-          let none : ◌≡◌ {A = ℕ} (cond ((stands s).complement i) 1 0) 0 = ap (λ b. cond b 1 0) (is ∙ sym w.if-is-complement.ensures) in
+      | else-is_complement w ↦
+          let none : ◌≡◌ {A = ℕ} (cond ((stands s).complement i) 1 0) 0 = ap (λ b. cond b 1 0) (is ∙ sym w.if-is_complement.ensures) in
           (omega (arith, w.count-is, more, none, c.loop-cell.invariant.0), omega (arith, w.count-is, c.loop-cell.invariant.1))
     ]
 

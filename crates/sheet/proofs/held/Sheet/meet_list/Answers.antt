@@ -12,7 +12,7 @@ loop-cell-preserved c =
     let rows = rows_of c.loop-cell.self in
     met_more c.args.self.now c.loop-cell.self c.meet.new.self (listing c.args.cells.now) c.loop-cell.cell c.loop-cell.invariant
     (omega arith) c.meet.ensures.network
-    (c.meet.ensures.rows ∙ ap (λ (e : Event). set rows c.loop-cell.cell (met (row_at rows c.loop-cell.cell) e)) c.event-of.ensures)
+    (c.meet.ensures.rows ∙ ap (λ (e : Event). set rows c.loop-cell.cell (met (row_at rows c.loop-cell.cell) e)) c.event_of.ensures)
 
 pub returns : goal.returns
 returns c = met_all c.args.self.now c.loop-cell.self (listing c.args.cells.now) c.loop-cell.cell (omega arith) c.loop-cell.invariant

@@ -5,24 +5,18 @@ use Rattle.readings.specs.Rows.{needs}
 use Rattle.sheet.proofs.Begun.{first_goes, begun_fresh}
 use Rattle.sheet.proofs.held.Sheet.new.Goals as goal
 
-pub invariant-of-result : goal.invariant-of-result
-invariant-of-result c =
-    let s = c.args.settled in (
-      s.celled,
-      (
-        s.related,
-        (
-          s.balanced,
-          (
-            s.within,
-            (
-              s.small,
-              ((λ x l. first_goes (needs (vec_items s.rows) x) (mark_at (vec_items s.rows) x) (s.begun x l)), (s.grounded, tt)),
-            ),
-          ),
-        ),
-      ),
-    )
+pub invariant_of-result : goal.invariant_of-result
+invariant_of-result c =
+    let s = c.args.settled in
+    record {
+      celled = s.celled;
+      related = s.related;
+      balanced = s.balanced;
+      within = s.within;
+      small = s.small;
+      tied = λ x l. first_goes (needs (vec_items s.rows) x) (mark_at (vec_items s.rows) x) (s.begun x l);
+      grounded = s.grounded;
+    }
 
 pub returns : goal.returns
 returns c =

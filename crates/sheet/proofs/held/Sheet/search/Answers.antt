@@ -11,7 +11,7 @@ use Rattle.sheet.proofs.Halfway.{open_is}
 use Rattle.sheet.proofs.Marking.{mark_of}
 use Rattle.sheet.proofs.Tries.{Searching, search_none, few_added, in_now, step_old, step_opened, step_added, open_hidden, search_counts, search_acted}
 use Rattle.sheet.proofs.held.Sheet.search.Goals as goal
-use Rattle.sheet.proofs.held.Sheet.search.Goals.{else-is-open-via-then-is-open+else-try-open, else-is-open-via-else-is-open}
+use Rattle.sheet.proofs.held.Sheet.search.Goals.{else-is_open-via-then-is_open+else-try_open, else-is_open-via-else-is_open}
 
 -- the cell before i
 down_one : (before now : Sheet) (i n : ℕ) → 0 < i → Searching before i n now → Searching before ((i - 1) + 1) n now
@@ -23,56 +23,56 @@ mark_read now k r b is e = ap is_open_mark (mark_of (rows_of now) k) ∙ ap (λ 
 
 pub row-requires : goal.row-requires
 row-requires c =
-    in_now c.set-bytes.new.self c.loop-cell.self (c.loop-cell.cell - 1) c.loop-cell.added
-    (down_one c.set-bytes.new.self c.loop-cell.self c.loop-cell.cell c.loop-cell.added c.loop-cell-test.true c.loop-cell.invariant)
+    in_now c.set_bytes.new.self c.loop-cell.self (c.loop-cell.cell - 1) c.loop-cell.added
+    (down_one c.set_bytes.new.self c.loop-cell.self c.loop-cell.cell c.loop-cell.added c.loop-cell-test.true c.loop-cell.invariant)
 
-pub try-open-requires : goal.try-open-requires
-try-open-requires c =
+pub try_open-requires : goal.try_open-requires
+try_open-requires c =
     let k : ℕ = c.loop-cell.cell - 1 in
-    let h = down_one c.set-bytes.new.self c.loop-cell.self c.loop-cell.cell c.loop-cell.added c.loop-cell-test.true c.loop-cell.invariant in
+    let h = down_one c.set_bytes.new.self c.loop-cell.self c.loop-cell.cell c.loop-cell.added c.loop-cell-test.true c.loop-cell.invariant in
     record {
-      within = in_now c.set-bytes.new.self c.loop-cell.self k c.loop-cell.added h;
-      hidden = open_hidden c.set-bytes.new.self c.loop-cell.self k c.loop-cell.added h
-          (open_is (mark_at (rows_of c.loop-cell.self) k) (mark_read c.loop-cell.self k c.row.result true c.row.ensures c.if-is-open.ensures));
+      within = in_now c.set_bytes.new.self c.loop-cell.self k c.loop-cell.added h;
+      hidden = open_hidden c.set_bytes.new.self c.loop-cell.self k c.loop-cell.added h
+          (open_is (mark_at (rows_of c.loop-cell.self) k) (mark_read c.loop-cell.self k c.row.result true c.row.ensures c.if-is_open.ensures));
     }
 
 pub loop-cell-init : goal.loop-cell-init
 loop-cell-init c =
-    search_none c.set-bytes.new.self c.cells-cell.result c.cells-cell.ensures
-    (c.set-bytes.ensures.bytes ∙ ap (bytes_of 1) (sym c.set-bytes.ensures.same.same_rows))
+    search_none c.set_bytes.new.self c.cells-cell.result c.cells-cell.ensures
+    (c.set_bytes.ensures.bytes ∙ ap (bytes_of 1) (sym c.set_bytes.ensures.same.same_rows))
 
-pub overflow-add-added : goal.overflow-add-added
-overflow-add-added c = omega (arith, few_added c.set-bytes.new.self c.loop-cell.cell c.loop-cell.added c.loop-cell.self c.loop-cell.invariant)
+pub overflow_add-added : goal.overflow_add-added
+overflow_add-added c = omega (arith, few_added c.set_bytes.new.self c.loop-cell.cell c.loop-cell.added c.loop-cell.self c.loop-cell.invariant)
 
-pub loop-cell-preserved-then-try-open : goal.loop-cell-preserved-then-try-open
-loop-cell-preserved-then-try-open c =
+pub loop-cell-preserved-then-try_open : goal.loop-cell-preserved-then-try_open
+loop-cell-preserved-then-try_open c =
     let k : ℕ = c.loop-cell.cell - 1 in
-    step_added c.set-bytes.new.self c.loop-cell.self k c.loop-cell.added
-    (down_one c.set-bytes.new.self c.loop-cell.self c.loop-cell.cell c.loop-cell.added c.loop-cell-test.true c.loop-cell.invariant)
-    (open_is (mark_at (rows_of c.loop-cell.self) k) (mark_read c.loop-cell.self k c.row.result true c.row.ensures c.if-is-open.ensures))
-    c.try-open.new.self c.if-try-open.ensures
+    step_added c.set_bytes.new.self c.loop-cell.self k c.loop-cell.added
+    (down_one c.set_bytes.new.self c.loop-cell.self c.loop-cell.cell c.loop-cell.added c.loop-cell-test.true c.loop-cell.invariant)
+    (open_is (mark_at (rows_of c.loop-cell.self) k) (mark_read c.loop-cell.self k c.row.result true c.row.ensures c.if-is_open.ensures))
+    c.try_open.new.self c.if-try_open.ensures
 
 pub loop-cell-preserved : goal.loop-cell-preserved
 loop-cell-preserved c =
     let k : ℕ = c.loop-cell.cell - 1 in
-    let h = down_one c.set-bytes.new.self c.loop-cell.self c.loop-cell.cell c.loop-cell.added c.loop-cell-test.true c.loop-cell.invariant in
-    let at : Sheet → Type 0 = λ s. Searching c.set-bytes.new.self k c.loop-cell.added s in
-    elim c.else-is-open.branch [
-      | else-is-open-via-then-is-open+else-try-open w ↦
+    let h = down_one c.set_bytes.new.self c.loop-cell.self c.loop-cell.cell c.loop-cell.added c.loop-cell-test.true c.loop-cell.invariant in
+    let at : Sheet → Type 0 = λ s. Searching c.set_bytes.new.self k c.loop-cell.added s in
+    elim c.else-is_open.branch [
+      | else-is_open-via-then-is_open+else-try_open w ↦
           subst at (sym w.self-is)
-          (step_opened c.set-bytes.new.self c.loop-cell.self k c.loop-cell.added h
-          (open_is (mark_at (rows_of c.loop-cell.self) k) (mark_read c.loop-cell.self k c.row.result true c.row.ensures w.if-is-open.ensures))
-          w.try-open.new.self w.if-try-open.ensures)
-      | else-is-open-via-else-is-open w ↦
+          (step_opened c.set_bytes.new.self c.loop-cell.self k c.loop-cell.added h
+          (open_is (mark_at (rows_of c.loop-cell.self) k) (mark_read c.loop-cell.self k c.row.result true c.row.ensures w.if-is_open.ensures))
+          w.try_open.new.self w.if-try_open.ensures)
+      | else-is_open-via-else-is_open w ↦
           subst at (sym w.self-is)
-          (step_old c.set-bytes.new.self c.loop-cell.self k c.loop-cell.added h
-          (mark_read c.loop-cell.self k c.row.result false c.row.ensures w.if-is-open.ensures))
+          (step_old c.set_bytes.new.self c.loop-cell.self k c.loop-cell.added h
+          (mark_read c.loop-cell.self k c.row.result false c.row.ensures w.if-is_open.ensures))
     ]
 
 pub returns : goal.returns
 returns c = record {
-  answer = search_counts c.args.self.now c.set-bytes.new.self c.loop-cell.self c.loop-cell.cell c.loop-cell.added
-      c.set-bytes.ensures.same c.loop-cell-test.false c.loop-cell.invariant;
-  acted = search_acted c.args.self.now c.set-bytes.new.self c.loop-cell.self c.loop-cell.cell c.loop-cell.added
-      c.set-bytes.ensures.same c.loop-cell-test.false c.loop-cell.invariant;
+  answer = search_counts c.args.self.now c.set_bytes.new.self c.loop-cell.self c.loop-cell.cell c.loop-cell.added
+      c.set_bytes.ensures.same c.loop-cell-test.false c.loop-cell.invariant;
+  acted = search_acted c.args.self.now c.set_bytes.new.self c.loop-cell.self c.loop-cell.cell c.loop-cell.added
+      c.set_bytes.ensures.same c.loop-cell-test.false c.loop-cell.invariant;
 }

@@ -8,7 +8,7 @@ pub returns : goal.returns
 returns c = record {
   same = record { same_network = refl; same_rows = refl };
   bytes =
-      with_items_is c.args.self.now.marks c.copy-marks.new.marks (c.copy-marks.auto.marks ∙ c.as-mut-slice.ensures.len)
-      ∙ c.copy-marks.ensures
-      ∙ ap (bytes_of c.args.«open») c.as-slice.ensures.value;
+      with_items_is c.args.self.now.marks c.copy_marks.new.marks (c.copy_marks.auto.marks ∙ c.as_mut_slice.ensures.len)
+      ∙ c.copy_marks.ensures
+      ∙ ap (bytes_of c.args.«open») c.as_slice.ensures.value;
 }

@@ -10,13 +10,13 @@ use Rattle.sheet.proofs.Answering.{reason, no_reason, acted_refused}
 use Rattle.sheet.proofs.Withheld.{counts_withheld, acted_withheld}
 use Rattle.sheet.proofs.held.Sheet.withhold.Goals as goal
 
-pub returns-in-err-check-entries : goal.returns-in-err-check-entries
-returns-in-err-check-entries c =
+pub returns-in_err-check_entries : goal.returns-in_err-check_entries
+returns-in_err-check_entries c =
     let s = c.args.self.now in
     let l = c.args.cells.now in
     let n : ℕ = complements (figures_of s) (accepted (figures_of s) (stands s) (withhold l)) in
-    let p = err_from_is_err_and c.from-residual.result c.from-residual.ensures.1 in
-    let why = reason (refusal (figures_of s) (stands s) (withhold l)) _ c.in-err-check-entries.ensures in
+    let p = err_from_is_err_and c.from_residual.result c.from_residual.ensures.1 in
+    let why = reason (refusal (figures_of s) (stands s) (withhold l)) _ c.in_err-check_entries.ensures in
     rw (p.1, p.2)
     record {
       answer = sym (ap (λ (o : Option Refusal). answered o n) why);
@@ -28,12 +28,12 @@ pub returns : goal.returns
 returns c =
     let s = c.args.self.now in
     let l = c.args.cells.now in
-    let after = c.meet-list.new.self in
-    let good : refusal (figures_of s) (stands s) (withhold l) ≡ None = no_reason _ c.in-ok-check-entries.ensures in
+    let after = c.meet_list.new.self in
+    let good : refusal (figures_of s) (stands s) (withhold l) ≡ None = no_reason _ c.in_ok-check_entries.ensures in
     record {
       answer =
-          ap (λ n. answered None n) (counts_withheld s after l good c.meet-list.ensures c.complements.result c.complements.ensures)
+          ap (λ n. answered None n) (counts_withheld s after l good c.meet_list.ensures c.complements.result c.complements.ensures)
           ∙ sym (ap (λ (o : Option Refusal). answered o (complements (figures_of s) (accepted (figures_of s) (stands s) (withhold l)))) good);
-      acted = acted_withheld s after l good c.meet-list.ensures c.complements.result c.complements.ensures;
+      acted = acted_withheld s after l good c.meet_list.ensures c.complements.result c.complements.ensures;
       unchanged = λ e. absurd (true≢false e);
     }

@@ -6,38 +6,28 @@ use Rattle.sheet.proofs.Lent.{lent_long, lent_balanced, lent_within, lent_small,
 use Rattle.sheet.proofs.Stood.{stood_hidden}
 use Rattle.sheet.proofs.held.Sheet.witness.Goals as goal
 
-pub invariant-of-witness : goal.invariant-of-witness
-invariant-of-witness c =
-    let s = c.set-bytes.new.self in
-    let rows : List Row = c.as-slice.result.now in
-    let is = c.as-slice.ensures.value in (
-      (lent_long s rows is, s.celled.1, s.celled.2),
-      (
-        s.related,
-        (
-          lent_balanced s rows is,
-          (
-            lent_within s rows is,
-            (
-              lent_small s rows is,
-              (
-                lent_hidden s rows is (stood_hidden c.args.self.now s c.set-bytes.ensures.same c.set-bytes.ensures.bytes),
-                tt,
-              ),
-            ),
-          ),
-        ),
-      ),
-    )
+pub invariant_of-witness : goal.invariant_of-witness
+invariant_of-witness c =
+    let s = c.set_bytes.new.self in
+    let rows : List Row = c.as_slice.result.now in
+    let is = c.as_slice.ensures.value in
+    record {
+      celled = (lent_long s rows is, s.celled.1, s.celled.2);
+      related = s.related;
+      balanced = lent_balanced s rows is;
+      within = lent_within s rows is;
+      small = lent_small s rows is;
+      hidden = lent_hidden s rows is (stood_hidden c.args.self.now s c.set_bytes.ensures.same c.set_bytes.ensures.bytes);
+    }
 
 pub returns : goal.returns
 returns c =
     let s = c.args.self.now in
-    let t = c.set-bytes.new.self in
-    let rows : List Row = c.as-slice.result.now in
-    let same = c.set-bytes.ensures.same in
-    let bytes = c.set-bytes.ensures.bytes in
-    let lent = c.as-slice.ensures.value in
+    let t = c.set_bytes.new.self in
+    let rows : List Row = c.as_slice.result.now in
+    let same = c.set_bytes.ensures.same in
+    let bytes = c.set_bytes.ensures.bytes in
+    let lent = c.as_slice.ensures.value in
     let before : List ℕ = c.args.memory.now in
     let memory : List ℕ = c.witness.new.memory in
     record {

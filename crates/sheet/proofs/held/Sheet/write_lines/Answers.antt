@@ -27,7 +27,7 @@ loop-cell-init c = page_none (shown (figures_of c.args.self.now) (stands c.args.
 pub loop-cell-preserved : goal.loop-cell-preserved
 loop-cell-preserved c =
     let s = c.args.self.now in
-    c.write-line.ensures.after
+    c.write_line.ensures.after
     ∙ line_more (figures_of s).shape.cells (shown (figures_of s) (stands s)) c.args.memory.now (sheet_printable s) c.requires c.loop-cell.cell c.loop-cell.memory
     (omega arith) c.loop-cell.invariant c.shown.result (shown_read s c.loop-cell.cell c.row.result c.shown.result (omega arith) c.row.ensures c.shown.ensures)
 

@@ -39,7 +39,7 @@ fn settle_and_run<R: Rule + Drop>(
     intake: Intake<R>,
     acts: &[Act],
 ) -> Result<Vec<Answer>, Refusal>
-    ensures { (s : Shape) → Laws s → Same s (shape_of intake.network) → MatchResult result (λ answers. Ran (figures_by s (meaning intake.rule) (held intake.memory.records.items)) acts.now answers.items) (λ e. e ≡ OutOfMemory) }
+    ensures { (s : Shape) → Laws s → Same s (shape_of intake.network) → MatchResult result (λ answers. Ran (figures_by s (R.meaning intake.rule) (held intake.memory.records.items)) acts.now answers.items) (λ e. e ≡ OutOfMemory) }
 {
     run_acts(heap, Sheet::new(intake.settle()), acts)
 }
@@ -64,7 +64,7 @@ pub fn run<L: Layout, R: Rule + Drop>(
     contributions: &[Contribution],
     acts: &[Act],
 ) -> Result<Vec<Answer>, Refusal>
-    ensures { MatchResult result (λ answers. Answers (shape layout.now) (meaning rule) (taken_in (shape layout.now) (entered (shape layout.now) contributions.now)) acts.now answers.items) (λ e. Refuses (taken_in (shape layout.now) (entered (shape layout.now) contributions.now)) e) }
+    ensures { MatchResult result (λ answers. Answers (L.shape layout.now) (R.meaning rule) (taken_in (L.shape layout.now) (entered (L.shape layout.now) contributions.now)) acts.now answers.items) (λ e. Refuses (taken_in (L.shape layout.now) (entered (L.shape layout.now) contributions.now)) e) }
 {
     let admitted = admit(heap, layout)?;
     let mut intake = Intake::open(admitted, rule);
@@ -80,7 +80,7 @@ pub fn run_deposit<L: Layout, R: Rule + Drop>(
     deposit: &[u8],
     acts: &[Act],
 ) -> Result<Vec<Answer>, Refusal>
-    ensures { MatchResult result (λ answers. Answers (shape layout.now) (meaning rule) (taken_in (shape layout.now) (deposited (shape layout.now) 0 deposit.now)) acts.now answers.items) (λ e. Refuses (taken_in (shape layout.now) (deposited (shape layout.now) 0 deposit.now)) e) }
+    ensures { MatchResult result (λ answers. Answers (L.shape layout.now) (R.meaning rule) (taken_in (L.shape layout.now) (deposited (L.shape layout.now) 0 deposit.now)) acts.now answers.items) (λ e. Refuses (taken_in (L.shape layout.now) (deposited (L.shape layout.now) 0 deposit.now)) e) }
 {
     let admitted = admit(heap, layout)?;
     let mut intake = Intake::open(admitted, rule);

@@ -9,10 +9,10 @@ use Rattle.office.proofs.performing.write_table.Goals as goal
 
 pub returns-in-Ok : goal.returns-in-Ok
 returns-in-Ok c =
-    let size = c.deref-mut.ensures.len ∙ c.in-ok-resize.ensures.len ∙ c.min.ensures in
-    let kept = c.truncate.ensures.items ∙ ap (take c.in-Ok.count) (take_at c.witness.new.memory _ _ (c.witness.auto.memory ∙ c.deref-mut.ensures.len)) in
+    let size = c.deref_mut.ensures.len ∙ c.in_ok-resize.ensures.len ∙ c.min.ensures in
+    let kept = c.truncate.ensures.items ∙ ap (take c.in-Ok.count) (take_at c.witness.new.memory _ _ (c.witness.auto.memory ∙ c.deref_mut.ensures.len)) in
     record {
       acted = subst (λ p. Acted c.args.sheet.now (witness c.args.cell c.args.side c.args.memory) (table p) c.witness.new.self) (sym kept)
-          (witnessed_in _ _ _ c.args.cell c.args.side c.args.memory (length c.deref-mut.result.now) size c.in-Ok.ensures.acted);
+          (witnessed_in _ _ _ c.args.cell c.args.side c.args.memory (length c.deref_mut.result.now) size c.in-Ok.ensures.acted);
       unchanged = λ e. absurd (true≢false e);
     }

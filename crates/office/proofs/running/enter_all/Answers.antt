@@ -7,22 +7,22 @@ use Rattle.office.proofs.running.enter_all.Goals as goal
 
 pub loop-x-preserved : goal.loop-x-preserved
 loop-x-preserved g c =
-    let e = c.in-ok-enter.ensures in
+    let e = c.in_ok-enter.ensures in
     let inv = c.loop-x.invariant in (
       entering_turn c.args.intake.now.network c.loop-x.intake.network inv.1 _ _ _ c.args.contributions.now c.loop-x.x-index c.loop-x-test.true inv.0
-          c.in-ok-enter.field-0 _ e.answer e.held,
+          c.in_ok-enter.field-0 _ e.answer e.held,
       e.same.0 ∙ inv.1,
       e.same.1 ∙ inv.2,
     )
 
-pub returns-in-err-enter : goal.returns-in-err-enter
-returns-in-err-enter g c =
-    let e = c.in-err-enter.ensures in
+pub returns-in_err-enter : goal.returns-in_err-enter
+returns-in_err-enter g c =
+    let e = c.in_err-enter.ensures in
     let inv = c.loop-x.invariant in
-    let p = err_from_is_err_and c.from-residual.result c.from-residual.ensures.1 in
+    let p = err_from_is_err_and c.from_residual.result c.from_residual.ensures.1 in
     record {
       taken = rw p.1 (entering_stops c.args.intake.now.network c.loop-x.intake.network inv.1 _ _ _ c.args.contributions.now c.loop-x.x-index c.loop-x-test.true inv.0
-          c.in-err-enter.field-0.0 e.answer ∙ ap Err (sym p.2));
+          c.in_err-enter.field-0.0 e.answer ∙ ap Err (sym p.2));
       same = (e.same.0 ∙ inv.1, e.same.1 ∙ inv.2);
     }
 

@@ -9,16 +9,16 @@ loop-act-init c = come_first c.args.acts.now _ c.args.sheet c.new-answers.ensure
 
 pub loop-act-preserved : goal.loop-act-preserved
 loop-act-preserved c =
-    come_more _ c.args.acts.now c.loop-act.act-index _ _ _ _ _ _ c.loop-act-test.true c.act-item.is c.in-ok-push.ensures.items c.loop-act.invariant
-    c.in-ok-answer.ensures.acted
+    come_more _ c.args.acts.now c.loop-act.act-index _ _ _ _ _ _ c.loop-act-test.true c.act-item.is c.in_ok-push.ensures.items c.loop-act.invariant
+    c.in_ok-answer.ensures.acted
 
-pub returns-in-err-answer : goal.returns-in-err-answer
-returns-in-err-answer c =
-    let p = err_from_is_err_and c.from-residual.result c.from-residual.ensures.1 in rw p.1 (p.2 ∙ c.in-err-answer.ensures.acted)
+pub returns-in_err-answer : goal.returns-in_err-answer
+returns-in_err-answer c =
+    let p = err_from_is_err_and c.from_residual.result c.from_residual.ensures.1 in rw p.1 (p.2 ∙ c.in_err-answer.ensures.acted)
 
-pub returns-in-err-push : goal.returns-in-err-push
-returns-in-err-push c =
-    let p = err_from_is_err_and c.from-residual-in-err-push.result c.from-residual-in-err-push.ensures.1 in rw p.1 p.2
+pub returns-in_err-push : goal.returns-in_err-push
+returns-in_err-push c =
+    let p = err_from_is_err_and c.from_residual-in_err-push.result c.from_residual-in_err-push.ensures.1 in rw p.1 p.2
 
 pub returns : goal.returns
 returns c =

@@ -17,6 +17,6 @@ returns g c s laws same =
     let meaning = g.R.Rule.meaning intake.rule in
     let like = settled_alike s laws intake.network sheet (c.new.ensures.network ∙ c.settle.ensures.network) same meaning (g.met.R.Rule.bound intake.rule) xs
     (λ i h. intake.leafy i (omega (arith, held_count intake.memory.records))) (c.new.ensures.rows ∙ c.settle.ensures.rows) in
-    MatchResult-weaker c.run-acts.result c.run-acts.ensures
+    MatchResult-weaker c.run_acts.result c.run_acts.ensures
     (λ v r. ran_alike (figures_by s meaning xs) (figures_of sheet) laws (sheet_settled sheet) like c.args.acts.now (vec_items v) r)
     (λ e h. h)

@@ -1,12 +1,12 @@
 -- A walk along a chain: what stands at a link, and what the rule is told.
-use Rattle.std.proofs.Common.{◌≡◌, ℕ, suc, ◌+◌, ◌-◌, ◌*◌, ◌<◌, ◌≤◌, List, [], ◌∷◌, ◌++◌, length, get_or, Ok, Err, Result, sym, refl, ap, ◌∙◌, subst, append_assoc, arith, length-append}
+use Rattle.std.proofs.Common.{◌≡◌, ℕ, ◌+◌, ◌-◌, ◌<◌, ◌≤◌, List, [], ◌∷◌, ◌++◌, length, get_or, Ok, Result, sym, ap, ◌∙◌, subst, append_assoc, arith, length-append}
 use Rattle.std.proofs.lemmas.List.{get_or-map, length-map}
 use Rattle.std.proofs.lemmas.Bool.Decides.{nat_tests}
 use Rattle.refusals.specs.declared.Refusal.{Refusal}
 use Rattle.rules.specs.Telling.{verdict, after}
 use Rattle.layouts.specs.declared.memory.Record.{Record}
 use Rattle.intake.specs.Chains.{held, leaf_list, amount_list, next_list, latest, chain_amounts}
-use Rattle.intake.specs.Settling.{Chained, chain_of}
+use Rattle.intake.specs.Settling.{Chained}
 use Rattle.intake.proofs.Links.{latest_within, chain_more, latest_again, chain_latest}
 
 abbrev pub no_record : Record

@@ -1,7 +1,6 @@
 -- How the answers of a rule make up a judgement.
-use Rattle.std.proofs.Common.{◌≡◌, ℕ, suc, Bool, true, false, cond, List, [], ◌∷◌, is_ok, Ok, Err, Result, sym, refl, ap, ◌∙◌, arith}
+use Rattle.std.proofs.Common.{◌≡◌, ℕ, suc, Bool, true, List, [], ◌∷◌, Ok, Err, Result, sym, refl, ap, arith}
 use Rattle.refusals.specs.declared.Refusal.{Refusal}
-use Rattle.refusals.specs.declared.Refusal.TheVariants.{RuleRange}
 use Rattle.rules.specs.Telling.{and_then, told_all, accepted, need_answer, verdict, where_accepted}
 use Rattle.judging.specs.Judged.{within}
 

@@ -16,7 +16,7 @@ use Rattle.intake.specs.Entering.{enter_answer}
 use Rattle.intake.specs.Deposit.{deposited, load_answer, held_then}
 use Rattle.intake.specs.Settling.{settled_rows}
 use Rattle.intake.proofs.Figures.{AtLeaves}
-use Rattle.runs.specs.Acts.{Act, print, witness, Answer, refused, count, page, table, Standing, step, exposure, withheld, page_of, refusal, unless, WitnessAnswer, Witnesses}
+use Rattle.runs.specs.Acts.{print, witness, Answer, refused, count, page, table, Standing, step, exposure, withheld, page_of, refusal, unless, WitnessAnswer, Witnesses}
 use Rattle.sheet.specs.declared.held.Sheet.{Sheet}
 use Rattle.sheet.specs.Sheets.{Acted, figures_of, rows_of, stands}
 use Rattle.sheet.proofs.Facts.{cells_few}

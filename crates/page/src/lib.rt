@@ -97,7 +97,7 @@ mod tests {
         let mut memory = [7u8; 40];
         let size = write_page(&mut memory, &[Some(2048), None])?;
         assert!(rt; size == 38);
-        assert!(rt; &memory[0..38] == b"0000          2048\n0001             D\n");
+        assert!(rt; &memory[0..38] == b"0000          2048\n0001             D\n".as_slice());
         assert!(rt; memory[38] == 7);
         Ok(())
     }

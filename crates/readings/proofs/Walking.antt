@@ -5,7 +5,6 @@ use Rattle.refusals.specs.declared.Side.{Side}
 use Rattle.refusals.specs.declared.Side.TheVariants.{Up, Down}
 use Rattle.layouts.specs.Shape.{Shape}
 use Rattle.readings.specs.Balance.{Balanced, Sound}
-use Rattle.readings.specs.Exposure.{ahead, behind}
 use Rattle.readings.specs.Paths.{turned, at, Came, Carries, Changed, Explored, Moves, SameBut, Walked}
 use Rattle.readings.specs.Theorems.{Room}
 use Rattle.readings.proofs.Crossing.{balanced_turned}

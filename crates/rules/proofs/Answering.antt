@@ -1,8 +1,8 @@
 -- Telling a whole list, amount by amount.
-use Rattle.std.proofs.Common.{◌≡◌, ℕ, suc, ◌+◌, ◌<◌, ◌≤◌, List, [], ◌∷◌, ◌++◌, length, get_or, take, drop, Ok, Err, Result, sym, refl, ap, ◌∙◌, append_assoc, add-one, drop-cons}
-use Rattle.std.proofs.lemmas.List.{drop_all, take_more}
+use Rattle.std.proofs.Common.{◌≡◌, ℕ, ◌+◌, ◌<◌, List, [], ◌∷◌, ◌++◌, length, get_or, take, drop, Ok, Err, append_assoc, add-one, drop-cons}
+use Rattle.std.proofs.lemmas.List.{take_more}
 use Rattle.refusals.specs.declared.Refusal.{Refusal}
-use Rattle.rules.specs.Telling.{verdict, and_then, told_all, accepted, need_answer}
+use Rattle.rules.specs.Telling.{verdict, told_all, accepted, need_answer}
 
 module _ (xs : List ℕ) (i : ℕ) where
   -- the amount at i is accepted

@@ -1,9 +1,9 @@
 -- `descending` has the amounts of the list, from the largest down.
-use Rattle.std.proofs.Common.{◌≡◌, ℕ, zero, suc, ◌+◌, ◌<◌, ◌≤◌, min, max, List, [], ◌∷◌, ◌++◌, length, get_or, sym, refl, ap, ◌∙◌, subst, ⊎_elim, add-one, arith}
+use Rattle.std.proofs.Common.{◌≡◌, ℕ, zero, suc, ◌<◌, ◌≤◌, min, max, List, [], ◌∷◌, get_or, refl, ⊎_elim, add-one, arith}
 use Rattle.std.specs.List.Sorted.{IsPermutation}
 use Rattle.std.proofs.lemmas.List.Sorted.{IsPermutation-refl, IsPermutation-cons, IsPermutation-swap, IsPermutation-trans}
 use Rattle.std.proofs.lemmas.Bool.{cases_lt}
-use Rattle.rules.specs.Largest.{placed, descending, nth_largest, Descends}
+use Rattle.rules.specs.Largest.{placed, descending, Descends}
 use Rattle.rules.specs.Descending.{placed_first}
 
 -- the first two in their order, or exchanged

@@ -1,12 +1,11 @@
 -- The two laws, of both needs.
-use Rattle.std.specs.Prelude.{◌≡◌, ℕ, ◌+◌, ◌-◌, ◌*◌, ◌/◌, ◌<◌, ◌≤◌, cond, List, [], ◌∷◌, sum, nat_lt, refl}
-use Rattle.std.proofs.Common.{sym, ap, ◌∙◌, arith, mul-le-mul_left, mul-le-mul_right, div-lt_iff_lt-mul, le-div_iff_mul-le, mul_comm, add-mul}
+use Rattle.std.specs.Prelude.{◌≡◌, ℕ, ◌+◌, ◌-◌, ◌*◌, ◌<◌, ◌≤◌, List, sum, nat_lt}
+use Rattle.std.proofs.Common.{arith, mul-le-mul_left, mul-le-mul_right, div-lt_iff_lt-mul, le-div_iff_mul-le, mul_comm, add-mul}
 use Rattle.std.specs.List.Sorted.{IsPermutation}
-use Rattle.std.proofs.lemmas.List.Sums.{sum_by-cons}
 use Rattle.std.proofs.lemmas.List.Sorted.{sum_by-IsPermutation}
 use Rattle.std.proofs.lemmas.Bool.{cond_both}
 use Rattle.rules.specs.Largest.{descending, nth_largest, n_largest}
-use Rattle.rules.specs.Needs.{up, remainder, p_sensitive, nk_sensitive, p_need, nk_need}
+use Rattle.rules.specs.Needs.{up, remainder, p_need, nk_need}
 use Rattle.rules.specs.Descending.{descending_shuffled, n_largest_le, sum_one, sum_two}
 
 pub largest_le : (xs : List ℕ) → nth_largest 0 xs ≤ sum xs

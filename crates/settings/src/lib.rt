@@ -103,7 +103,7 @@ mod tests {
         let RuleSetting::Nk { n: 2, k: 80 } = settings.rule else {
             return Err(Fail::new("rule"));
         };
-        assert!(rt; rest == b"more");
+        assert!(rt; rest == b"more".as_slice());
         Ok(())
     }
 

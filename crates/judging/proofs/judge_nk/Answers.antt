@@ -1,9 +1,8 @@
 -- The rule that was made has the N and the K asked for, and stands for all the amounts.
-use Rattle.std.proofs.Common.{◌≡◌, ℕ, min, length, sym, refl, ap, ◌∙◌, arith}
+use Rattle.std.proofs.Common.{◌≡◌, min, ap, ◌∙◌, arith}
 use Rattle.rules.specs.Largest.{n_largest}
 use Rattle.rules.specs.Told.{Told}
 use Rattle.rules.specs.Needs.{nk_need, nk_range}
-use Rattle.judging.specs.declared.Judgement.TheVariants.{Nk}
 use Rattle.judging.proofs.Judging.{accepted_all, answered, in_range}
 use Rattle.judging.proofs.judge_nk.Goals as goal
 

@@ -1,8 +1,7 @@
 -- The rule that was made has the percent asked for, and stands for all the amounts.
-use Rattle.std.proofs.Common.{◌≡◌, ℕ, length, sym, refl, ap, ◌∙◌}
+use Rattle.std.proofs.Common.{◌≡◌, ap, ◌∙◌}
 use Rattle.rules.specs.Told.{Told}
 use Rattle.rules.specs.Needs.{p_need, p_range, remainder}
-use Rattle.judging.specs.declared.Judgement.TheVariants.{P}
 use Rattle.judging.proofs.Judging.{accepted_all, answered, in_range}
 use Rattle.judging.proofs.judge_p.Goals as goal
 

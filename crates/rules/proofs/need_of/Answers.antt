@@ -1,5 +1,5 @@
 -- Each amount is judged by how many were told before it.
-use Rattle.std.proofs.Common.{◌≡◌, ℕ, ◌+◌, ◌<◌, ◌≤◌, List, [], ◌++◌, length, get_or, take, drop, Ok, Err, sym, refl, ap, ◌∙◌, append-nil, arith, length-take, take_all}
+use Rattle.std.proofs.Common.{◌≡◌, ◌<◌, [], ◌++◌, length, get_or, take, drop, Ok, Err, sym, ap, ◌∙◌, append-nil, arith, length-take, take_all}
 use Rattle.std.proofs.lemmas.List.{take_more, drop_all}
 use Rattle.std.proofs.lemmas.Result.{err_from_is_err_and}
 use Rattle.rules.specs.Telling.{verdict, told_all, accepted}

@@ -1,5 +1,5 @@
 -- One mark more is false.
-use Rattle.std.proofs.Common.{◌≡◌, ◌≤◌, false, [], ◌∷◌, ◌++◌, length, replicate, sym, refl, ap, ◌∙◌, arith}
+use Rattle.std.proofs.Common.{◌≤◌, false, [], ◌∷◌, ◌++◌, length, replicate, sym, ap, ◌∙◌, arith}
 use Rattle.std.proofs.lemmas.List.{replicate_more, take_all, take_more_set}
 use Rattle.intake.proofs.deposit.unmark.Goals as goal
 

@@ -1,10 +1,8 @@
 -- Each test of the code is one of the walk.
-use Rattle.std.proofs.Common.{◌≡◌, ℕ, ◌+◌, ◌-◌, ◌*◌, ◌<◌, ◌≤◌, Bool, true, false, not, ◌&&◌, eqb, List, [], ◌∷◌, ◌++◌, length, get_or, set, Ok, Err, vec_items, vec_len, vec_capacity, Result, sym, refl, ap, ◌∙◌, arith}
+use Rattle.std.proofs.Common.{◌≡◌, ℕ, ◌+◌, ◌-◌, ◌*◌, ◌<◌, ◌≤◌, true, false, not, ◌&&◌, eqb, [], ◌∷◌, ◌++◌, length, set, Ok, vec_items, vec_len, sym, ap, ◌∙◌, arith}
 use Rattle.std.proofs.lemmas.List.{append-nil}
 use Rattle.std.proofs.lemmas.Bool.{true≢false}
-use Rattle.refusals.specs.declared.Refusal.{Refusal}
 use Rattle.layouts.specs.Admission.{shape_of}
-use Rattle.layouts.specs.declared.memory.Contribution.{Contribution}
 use Rattle.layouts.specs.declared.network.Network.{Network}
 use Rattle.layouts.proofs.Kept.{network_cells}
 use Rattle.intake.specs.Deposit.{after_these, chain, contribution, head, next, record_place, unseen, walk, word}

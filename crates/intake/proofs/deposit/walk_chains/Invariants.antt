@@ -1,5 +1,5 @@
 -- What was read so far, and what the rest of the walk reads, make up what the whole walk reads.
-use Rattle.std.proofs.Common.{◌≡◌, ℕ, suc, ◌+◌, ◌-◌, ◌≤◌, vec_items, vec_len, vec_capacity}
+use Rattle.std.proofs.Common.{◌≡◌, ◌+◌, ◌-◌, ◌≤◌, vec_items, vec_len, vec_capacity}
 use Rattle.layouts.specs.Admission.{shape_of}
 use Rattle.intake.specs.Deposit.{after_these, chain, unseen, walk}
 use Rattle.intake.proofs.deposit.walk_chains.Given as goal

@@ -1,15 +1,13 @@
 -- The chains go leaf by leaf, and the order makes no difference.
-use Rattle.std.proofs.Common.{◌≡◌, ℕ, ◌+◌, ◌-◌, ◌*◌, ◌<◌, ◌≤◌, Bool, true, false, cond, List, [], ◌∷◌, ◌++◌, length, get_or, vec_items, vec_len, sum, sym, refl, ap, ◌∙◌, subst, append-nil, arith}
+use Rattle.std.proofs.Common.{◌≡◌, ℕ, ◌+◌, ◌-◌, ◌*◌, ◌<◌, Bool, true, false, cond, List, [], ◌++◌, length, get_or, vec_items, vec_len, sum, sym, refl, ap, ◌∙◌, subst, arith}
 use Rattle.std.proofs.lemmas.Nat.{mul-add-lt}
 use Rattle.std.proofs.lemmas.List.{get_or_read}
 use Rattle.std.proofs.lemmas.List.Sums.{sum_by-append}
 use Rattle.layouts.specs.Admission.{shape_of}
 use Rattle.layouts.specs.declared.network.Network.{Network}
-use Rattle.layouts.proofs.Kept.{network_cells}
-use Rattle.intake.specs.Contributions.{figure_of, need_of}
-use Rattle.intake.specs.Chains.{held, leaf_list, amount_list, chain_amounts, chains_from}
-use Rattle.intake.specs.Settling.{Chained, chain_of}
-use Rattle.intake.proofs.Settles.{chains_more, chains_all, whole, whole_shuffled, whole_short, whole_sum, told_chain, told_room, told_whole, row_made}
+use Rattle.intake.specs.Chains.{held, leaf_list, amount_list, chains_from}
+use Rattle.intake.specs.Settling.{chain_of}
+use Rattle.intake.proofs.Settles.{chains_more, chains_all, whole_shuffled, whole_short, whole_sum, told_chain, told_room, told_whole, row_made}
 use Rattle.intake.proofs.settling.settle_cell.Goals as goal
 use Rattle.intake.proofs.settling.settle_cell.Goals.{then-index, else-index}
 

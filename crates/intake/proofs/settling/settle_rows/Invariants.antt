@@ -1,5 +1,5 @@
 -- The rows below the cell are settled.
-use Rattle.std.proofs.Common.{◌≡◌, ℕ, List, length, take}
+use Rattle.std.proofs.Common.{◌≡◌, ℕ, List, take}
 use Rattle.layouts.specs.Admission.{shape_of}
 use Rattle.layouts.specs.Copied.{values}
 use Rattle.intake.specs.Chains.{held}

@@ -1,5 +1,5 @@
 -- Each refusal is the first that the input meets, and the last answer is the page of the searched table.
-use Rattle.std.proofs.Common.{◌≡◌, ℕ, List, [], ◌∷◌, length, Some, Err, vec_items, sym, refl, ap, ◌∙◌, subst, ⊎_elim}
+use Rattle.std.proofs.Common.{◌≡◌, [], ◌∷◌, length, Some, Err, vec_items, sym, ap, ◌∙◌, ⊎_elim}
 use Rattle.std.proofs.lemmas.Result.{MatchResult-weaker, err_from_is_err_and}
 use Rattle.refusals.specs.declared.Refusal.TheVariants.{OutOfMemory}
 use Rattle.intake.specs.Deposit.{deposited}
@@ -8,7 +8,7 @@ use Rattle.office.specs.Office.{figures_by, taken_in}
 use Rattle.office.specs.declared.acts.Act.TheVariants.{Search, Print}
 use Rattle.office.specs.Histories.{answer_of}
 use Rattle.job.specs.Chosen.{meaning_asked, meaning_of, shape_asked, shape_of}
-use Rattle.job.specs.Job.{Printed, Refused, for_line, for_range, for_deposit, for_memory, early, figures_asked, too_large}
+use Rattle.job.specs.Job.{for_range, for_deposit, for_memory, figures_asked, too_large}
 use Rattle.job.proofs.Ranges.{early_layout, early_rule, early_size, size_refused, size_passed, passed_admissible}
 use Rattle.job.proofs.Pages.{last_page, refused_by, answered_by, within_limits}
 use Rattle.job.proofs.suppressing.suppress.Goals as goal

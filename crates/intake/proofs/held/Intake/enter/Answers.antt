@@ -1,5 +1,5 @@
 -- The tests are those of the answer, in their order.
-use Rattle.std.proofs.Common.{◌≡◌, ℕ, ◌+◌, ◌<◌, ◌≤◌, true, ltb, length, Ok, vec_len, sym, refl, ap, ◌∙◌, arith}
+use Rattle.std.proofs.Common.{ℕ, ◌<◌, true, ltb, Ok, vec_len, refl, ap, ◌∙◌, arith}
 use Rattle.std.proofs.lemmas.Bool.{and_from, lt-ltb, true≢false}
 use Rattle.layouts.specs.Admission.{shape_of}
 use Rattle.layouts.specs.declared.network.Network.{Network}

@@ -1,6 +1,6 @@
 -- Each is at a leaf, within the largest amount, and there is room for it.
-use Rattle.std.proofs.Common.{◌≡◌, ℕ, ◌+◌, ◌<◌, ◌≤◌, true, List, [], ◌∷◌, ◌++◌, length, get_or, take, vec_items, vec_len, sym, refl, ap, ◌∙◌, subst, append_assoc, arith, length-append, length-take}
-use Rattle.std.proofs.lemmas.List.{get_or_default, take_all, take_more}
+use Rattle.std.proofs.Common.{◌≡◌, ℕ, ◌+◌, ◌<◌, ◌≤◌, true, List, [], ◌∷◌, ◌++◌, length, get_or, take, vec_items, vec_len, sym, ap, ◌∙◌, subst, append_assoc, arith, length-append, length-take}
+use Rattle.std.proofs.lemmas.List.{take_all, take_more}
 use Rattle.layouts.specs.Admission.{shape_of}
 use Rattle.layouts.specs.Shape.{is_leaf}
 use Rattle.layouts.specs.declared.memory.Contribution.{Contribution}

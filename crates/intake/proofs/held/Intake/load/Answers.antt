@@ -1,5 +1,5 @@
 -- The checks and the walk are those of the deposit's definition.
-use Rattle.std.proofs.Common.{◌≡◌, ℕ, ◌+◌, ◌*◌, ◌<◌, ◌≤◌, true, false, List, ◌++◌, length, replicate, Ok, Err, vec_items, vec_len, Result, Vec, sym, refl, ap, ◌∙◌, subst, arith}
+use Rattle.std.proofs.Common.{◌≡◌, ℕ, false, List, length, replicate, Ok, Err, vec_items, vec_len, Result, Vec, sym, refl, ap, ◌∙◌, arith}
 use Rattle.std.specs.declared.alloc.Global.{Global}
 use Rattle.std.proofs.lemmas.Result.{err_from_is_err_and}
 use Rattle.std.proofs.lemmas.Bool.{true≢false}
@@ -10,7 +10,7 @@ use Rattle.layouts.specs.declared.memory.Record.{Record}
 use Rattle.layouts.specs.declared.network.Network.{Network}
 use Rattle.layouts.proofs.Kept.{network_cells}
 use Rattle.intake.specs.Chains.{held}
-use Rattle.intake.specs.Deposit.{counted, deposited, held_then, load_answer, record_count, walk}
+use Rattle.intake.specs.Deposit.{counted, held_then, load_answer, walk}
 use Rattle.intake.proofs.Entered.{held_count}
 use Rattle.intake.proofs.Goods.{walk_good}
 use Rattle.intake.proofs.Loads.{counted_fits, deposit_refused, deposit_walked}

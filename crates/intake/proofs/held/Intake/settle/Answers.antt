@@ -1,5 +1,5 @@
 -- What settling gives is what a sheet needs.
-use Rattle.std.proofs.Common.{◌≡◌, ℕ, ◌<◌, ◌≤◌, true, ltb, List, length, get_or, drop, vec_items, vec_len, sym, refl, ap, ◌∙◌, subst, arith}
+use Rattle.std.proofs.Common.{◌≡◌, ℕ, ◌<◌, true, ltb, length, drop, vec_items, vec_len, sym, refl, ap, ◌∙◌, subst, arith}
 use Rattle.std.proofs.lemmas.List.{take_at}
 use Rattle.std.proofs.lemmas.Bool.{and_parts, ltb-true}
 use Rattle.layouts.specs.Admission.{shape_of}
@@ -8,7 +8,7 @@ use Rattle.layouts.specs.declared.network.Network.{Network}
 use Rattle.layouts.proofs.Kept.{network_cells, network_laws}
 use Rattle.layouts.proofs.Values.{length_values}
 use Rattle.readings.specs.Exposure.{any_below}
-use Rattle.intake.specs.Chains.{held, leaf_list}
+use Rattle.intake.specs.Chains.{held}
 use Rattle.intake.specs.Settling.{Chained, is_under, settled_row, settled_rows}
 use Rattle.intake.proofs.Entered.{held_count}
 use Rattle.intake.proofs.Settles.{chained_from}

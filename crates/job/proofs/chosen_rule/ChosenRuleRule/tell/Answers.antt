@@ -1,5 +1,5 @@
 -- The rule inside is told.
-use Rattle.std.proofs.Common.{◌≡◌, sym, ap, ◌∙◌, subst}
+use Rattle.std.proofs.Common.{sym, ap, ◌∙◌, subst}
 use Rattle.job.specs.Chosen.{meaning_of, ToldOf}
 use Rattle.job.proofs.chosen_rule.ChosenRuleRule.tell.Goals as goal
 

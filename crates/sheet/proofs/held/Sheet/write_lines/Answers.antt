@@ -1,5 +1,5 @@
 -- One line more is written, up to the last.
-use Rattle.std.proofs.Common.{◌≡◌, ℕ, ◌+◌, ◌*◌, ◌<◌, ◌++◌, drop, Option, sym, ap, ◌∙◌, arith}
+use Rattle.std.proofs.Common.{◌≡◌, ℕ, ◌*◌, ◌<◌, ◌++◌, drop, Option, sym, ap, ◌∙◌, arith}
 use Rattle.layouts.specs.declared.memory.Row.{Row}
 use Rattle.page.specs.Page.{page}
 use Rattle.page.proofs.Pages.{page_none, line_more}

@@ -53,13 +53,13 @@ fn fill(table: &mut Vec<Row>, kind: u64) {
     }
 }
 
-fn main(rt: LibcRuntime) -> io::Result<()> {
+fn main(rt: HostRuntime) -> io::Result<()> {
     let (rows, columns, wide) = (15, 31, 32);
     let Ok(grid) = Grid::new(rows, columns) else {
-        return println!(rt, "no grid");
+        return println!(rt; "no grid");
     };
     let Ok(mut admitted) = admit(rt.alloc(), &grid) else {
-        return println!(rt, "not admitted");
+        return println!(rt; "not admitted");
     };
     for kind in 0..3 {
         fill(&mut admitted.memory.rows, kind);
@@ -68,7 +68,7 @@ fn main(rt: LibcRuntime) -> io::Result<()> {
     Ok(())
 }
 
-fn audit_patterns(rt: &LibcRuntime, admitted: &mut Admitted, kind: u64) -> io::Result<()> {
+fn audit_patterns(rt: &HostRuntime, admitted: &mut Admitted, kind: u64) -> io::Result<()> {
     let (rows, columns, wide) = (15, 31, 32);
     for pattern in 0..3 {
         for c in 0..512 {
@@ -92,7 +92,7 @@ fn audit_patterns(rt: &LibcRuntime, admitted: &mut Admitted, kind: u64) -> io::R
             }
         }
         let each = began.elapsed(&rt)?.as_micros() / u128::from(AUDITS);
-        println!(rt, "{kind} {pattern} {passed} {each}")?;
+        println!(rt; "{kind} {pattern} {passed} {each}")?;
     }
     Ok(())
 }

@@ -1,6 +1,6 @@
 -- Reading one contribution after another.
 use Rattle.std.proofs.Common.{◌≡◌, ℕ, ◌+◌, ◌<◌, ◌≤◌, List, [], ◌∷◌, ◌++◌, length, decimal, sym, refl, ap, ◌∙◌, subst, append_assoc, append-nil, arith, length-append}
-use Rattle.std.specs.List.{flat_map, AllByRecursion as All}
+use Rattle.std.specs.List.{flat_map, AllByRecursion}
 use Rattle.std.proofs.ByRecursion.{All-push}
 use Rattle.std.proofs.lemmas.List.{flat_map_more, nil_from_length}
 use Rattle.layouts.specs.declared.memory.Contribution.{Contribution}
@@ -12,7 +12,7 @@ use Rattle.composing.specs.Text.{contribution_text, SmallContribution, Lines}
 
 -- The contributions xs have been read, and the rest is left: it is what follows xs, of whichever contributions the input is the text.
 pub record Begun (input : List ℕ) (xs : List Contribution) (rest : List ℕ) : Type 0 where
-  pub small : All SmallContribution xs
+  pub small : AllByRecursion SmallContribution xs
   pub is : input ≡ flat_map contribution_text xs ++ rest
   pub follows : (ys : List Contribution) → Lines input ys → (zs : List Contribution) × (ys ≡ xs ++ zs) × Lines rest zs
 

@@ -23,8 +23,8 @@ module _ (xs : List Contribution) (hs : List ℕ) (i j : ℕ) (e : i ≡ j + 1) 
       let here : first_of k (j + 1) (drop j xs) ≡ first_of k (j + 1) (x ∷ drop (j + 1) xs) = at_drop_more (first_of k (j + 1)) xs j blank h in
       ⊎_elim
       (λ (s : x.leaf ≡ k).
-      let at-k : get_or (set hs x.leaf (j + 1)) k 0 ≡ j + 1 = subst (λ m. get_or (set hs x.leaf (j + 1)) m 0 ≡ j + 1) s (get_or-set_same hs x.leaf (j + 1) 0 w) in
-      rw (at-k, here, eq-eqb x.leaf k s))
+      let at_k : get_or (set hs x.leaf (j + 1)) k 0 ≡ j + 1 = subst (λ m. get_or (set hs x.leaf (j + 1)) m 0 ≡ j + 1) s (get_or-set_same hs x.leaf (j + 1) 0 w) in
+      rw (at_k, here, eq-eqb x.leaf k s))
       (λ (d : x.leaf ≡ k → ⊥).
       let apart : k ≢ x.leaf = λ s. d (sym s) in
       let old : get_or hs k 0 ≡ first_of k (j + 1 + 1) (drop (j + 1) xs) = subst (λ n. get_or hs k 0 ≡ first_of k (n + 1) (drop n xs)) e (linked k l) in
@@ -72,8 +72,8 @@ pub all_listed : (cells : ℕ) (xs : List Contribution) (hs ns : List ℕ) → C
     → none ≡ [] → one ≡ none ++ cells ∷ [] → two ≡ one ++ length xs ∷ [] → slice ≡ hs → three ≡ two ++ slice → all ≡ three ++ records 1 xs
     → all ≡ numbers cells xs
 all_listed cells xs hs ns k none one two slice three all a b d s e f =
-    let heads-are : hs ≡ heads cells xs = fill_by_all (λ m. first_of m 1 xs) hs cells 0 k.many_heads (λ m h. k.linked.heads m (omega (arith, k.many_heads))) in
-    rw (f, e, s, d, b, a, heads-are)
+    let heads_are : hs ≡ heads cells xs = fill_by_all (λ m. first_of m 1 xs) hs cells 0 k.many_heads (λ m h. k.linked.heads m (omega (arith, k.many_heads))) in
+    rw (f, e, s, d, b, a, heads_are)
 
 -- ---- writing
 

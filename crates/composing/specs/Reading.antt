@@ -4,7 +4,7 @@ use Rattle.std.specs.Borrow.{Bor}
 use Rattle.std.specs.Str.Parse.{digits_value}
 use Rattle.std.specs.Int.{IsInRange}
 use Rattle.std.specs.declared.alloc.Global.{Global}
-use Rattle.std.specs.List.{flat_map, AllByRecursion as All}
+use Rattle.std.specs.List.{flat_map, AllByRecursion}
 use Rattle.layouts.specs.declared.memory.Contribution.{Contribution}
 use Rattle.settings.specs.Line.{settings_text, ShortSettings}
 use Rattle.settings.specs.Reading.{Alone, Never}
@@ -46,7 +46,7 @@ module _ (n : ℕ) {X : Type 0} (valid : X → Type 0) (text : X → List ℕ) (
 
 -- The contributions xs can be read off the input, and after them there is something that is none; the first stands on line 2.
 pub record Stops (input : List ℕ) (xs : List Contribution) (rest : List ℕ) (e : Fault) : Type 0 where
-  pub small : All SmallContribution xs
+  pub small : AllByRecursion SmallContribution xs
   pub is : input ≡ flat_map contribution_text xs ++ rest
   pub left : 0 < length rest
   pub never : Never SmallContribution contribution_text rest

@@ -1,6 +1,6 @@
 -- The text that a deposit is made of: the settings line, and then a line for each contribution.
 use Rattle.std.specs.Prelude.{◌≡◌, ℕ, ◌^◌, ◌<◌, List, ◌++◌}
-use Rattle.std.specs.List.{flat_map, AllByRecursion as All}
+use Rattle.std.specs.List.{flat_map, AllByRecursion}
 use Rattle.layouts.specs.Shape.{Shape}
 use Rattle.layouts.specs.Layouts.{grid, listed}
 use Rattle.layouts.specs.declared.memory.Contribution.{Contribution}
@@ -33,11 +33,11 @@ SmallContribution x = Small x.leaf × SmallPair (x.company, x.amount)
 
 -- The input is the text of these contributions.
 pub record Lines (input : List ℕ) (xs : List Contribution) : Type 0 where
-  pub small : All SmallContribution xs
+  pub small : AllByRecursion SmallContribution xs
   pub is : input ≡ flat_map contribution_text xs
 
 -- The input is the text of these settings and contributions.
 pub record Text (input : List ℕ) (s : Settings) (xs : List Contribution) : Type 0 where
   pub short : ShortSettings s
-  pub small : All SmallContribution xs
+  pub small : AllByRecursion SmallContribution xs
   pub is : input ≡ settings_text s ++ flat_map contribution_text xs

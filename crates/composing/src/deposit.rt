@@ -2,7 +2,7 @@
 ghost use Rattle.std.specs.Prelude.{◌≡◌, ℕ, ◌^◌, ◌<◌, ◌++◌, length, replicate, IfOk, None, MatchResult, slice_index, slice_index_or};
 ghost use Rattle.std.specs.List.{flat_map};
 ghost use Rattle.composing.specs.Composed.{fault_from, fault_of, Composes};
-ghost use Rattle.composing.specs.Deposit.{numbers as deposit-numbers, number_bytes, records, next_at, Linked, Chained};
+ghost use Rattle.composing.specs.Deposit.{numbers as deposit_numbers, number_bytes, records, next_at, Linked, Chained};
 ghost use Rattle.composing.specs.declared.faults.Fault.TheVariants.{OutOfMemory};
 
 use crate::faults::Fault;
@@ -82,7 +82,7 @@ fn chains(
 
 fn list_numbers(heap: Global, cells: u32, contributions: &[Contribution]) -> Result<Vec<u32>, Fault>
     requires { fault_of cells contributions.now ≡ None }
-    ensures { MatchResult result (λ v. v.items ≡ deposit-numbers cells contributions.now) (λ e. e ≡ OutOfMemory) }
+    ensures { MatchResult result (λ v. v.items ≡ deposit_numbers cells contributions.now) (λ e. e ≡ OutOfMemory) }
 {
     let (heads, nexts) = chains(heap, cells, contributions)?;
     let mut numbers = Vec::new(heap);

@@ -83,7 +83,7 @@ module _ (s : Shape) (xs : List Contribution) (c : ℕ) where
       let within : get_or (leaf_list xs) n 0 < cells = w n h in
       let x : Contribution = get_or xs n none_yet in
       let leaf_is : get_or (leaf_list xs) n 0 ≡ x.leaf = get_or-map (λ x. x.leaf) xs n none_yet 0 h in
-      let amount-is : get_or (amount_list xs) n 0 ≡ x.amount = get_or-map (λ x. x.amount) xs n none_yet 0 h in
+      let amount_is : get_or (amount_list xs) n 0 ≡ x.amount = get_or-map (λ x. x.amount) xs n none_yet 0 h in
       let first = chains_from (s.counts c) (leaf_list xs) (amount_list xs) n 0 cells in
       let last = chains_from (s.counts c) (leaf_list xs) (amount_list xs) (suc n) 0 cells in
       let old = amounts_under s (take n xs) c in
@@ -95,7 +95,7 @@ module _ (s : Shape) (xs : List Contribution) (c : ℕ) where
       let more = chains_insert (s.counts c) (leaf_list xs) (amount_list xs) n 0 cells (omega arith) (omega arith) yes in
       rw (step, e) (IsPermutation-trans (old ++ x.amount ∷ []) (x.amount ∷ old) last (IsPermutation-to_front old x.amount)
       (IsPermutation-trans (x.amount ∷ old) (x.amount ∷ first) last (IsPermutation-cons x.amount old first before)
-      (rw (← amount-is) more))))
+      (rw (← amount_is) more))))
       (λ (e : s.counts c x.leaf ≡ false).
       let no : s.counts c (get_or (leaf_list xs) n 0) ≡ false = ap (s.counts c) leaf_is ∙ e in
       let same : last ≡ first = chains_other (s.counts c) (leaf_list xs) (amount_list xs) n 0 cells (λ l low high is. subst (λ l. s.counts c l ≡ false) is no) in

@@ -5,9 +5,9 @@ use Rattle.layouts.specs.Layouts.{grid, listed, grid_size, list_size}
 use Rattle.rules.specs.Needs.{p_need, p_range, nk_need, nk_range}
 use Rattle.rules.specs.Told.{Told}
 use Rattle.settings.specs.declared.choices.LayoutSetting.{LayoutSetting}
-use Rattle.settings.specs.declared.choices.LayoutSetting.TheVariants.{Grid as gridOf, List as list_of}
+use Rattle.settings.specs.declared.choices.LayoutSetting.TheVariants.{Grid as grid_of, List as list_of}
 use Rattle.settings.specs.declared.choices.RuleSetting.{RuleSetting}
-use Rattle.settings.specs.declared.choices.RuleSetting.TheVariants.{P as pOf, Nk as nkOf}
+use Rattle.settings.specs.declared.choices.RuleSetting.TheVariants.{P as p_of, Nk as nk_of}
 use Rattle.job.specs.declared.chosen_layout.ChosenLayout.{ChosenLayout}
 use Rattle.job.specs.declared.chosen_layout.ChosenLayout.TheVariants.{Grid, Leaves}
 use Rattle.job.specs.declared.chosen_rule.ChosenRule.{ChosenRule}
@@ -27,17 +27,17 @@ ToldOf (Nk r) xs = Told r.told xs
 
 -- what a settings line asks for, and whether it is within its range
 abbrev pub shape_asked : LayoutSetting → Shape
-shape_asked (gridOf r c) = grid r c
+shape_asked (grid_of r c) = grid r c
 shape_asked (list_of n) = listed n
 
 abbrev pub layout_range : LayoutSetting → Bool
-layout_range (gridOf r c) = grid_size r c
+layout_range (grid_of r c) = grid_size r c
 layout_range (list_of n) = list_size n
 
 abbrev pub meaning_asked : RuleSetting → List ℕ → ℕ
-meaning_asked (pOf p) xs = p_need p xs
-meaning_asked (nkOf n k) xs = nk_need n k xs
+meaning_asked (p_of p) xs = p_need p xs
+meaning_asked (nk_of n k) xs = nk_need n k xs
 
 abbrev pub rule_range : RuleSetting → Bool
-rule_range (pOf p) = p_range p
-rule_range (nkOf n k) = nk_range n k
+rule_range (p_of p) = p_range p
+rule_range (nk_of n k) = nk_range n k

@@ -6,7 +6,7 @@ use Rattle.rules.specs.Largest.{nth_largest, n_largest}
 use Rattle.rules.specs.Needs.{p_need, p_range, nk_need, nk_range, remainder}
 use Rattle.rules.specs.Telling.{and_then, told_all}
 use Rattle.judging.specs.declared.Asked.{Asked}
-use Rattle.judging.specs.declared.Asked.TheVariants.{P as askP, Nk as askNk}
+use Rattle.judging.specs.declared.Asked.TheVariants.{P as ask_p, Nk as ask_nk}
 use Rattle.judging.specs.declared.Judgement.{Judgement}
 use Rattle.judging.specs.declared.Judgement.TheVariants.{P, Nk}
 
@@ -15,7 +15,7 @@ within b = cond b (Ok tt) (Err RuleRange)
 
 -- a rule outside its range is refused first, then the first amount that cannot be told
 abbrev pub judged : Asked → List ℕ → Result Judgement Refusal
-judged (askP p) xs = and_then (within (p_range p)) (and_then (told_all 0 xs)
+judged (ask_p p) xs = and_then (within (p_range p)) (and_then (told_all 0 xs)
     (Ok (P p (length xs) (sum xs) (nth_largest 0 xs) (nth_largest 1 xs) (remainder xs) (p_need p xs))))
-judged (askNk n k) xs = and_then (within (nk_range n k)) (and_then (told_all 0 xs)
+judged (ask_nk n k) xs = and_then (within (nk_range n k)) (and_then (told_all 0 xs)
     (Ok (Nk n k (length xs) (sum xs) (n_largest n xs) (nk_need n k xs))))

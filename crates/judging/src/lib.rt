@@ -3,7 +3,7 @@
 
 ghost use Rattle.std.specs.Prelude.{◌≡◌};
 ghost use Rattle.judging.specs.Judged.{judged};
-ghost use Rattle.judging.specs.declared.Asked.TheVariants.{P as askP, Nk as askNk};
+ghost use Rattle.judging.specs.declared.Asked.TheVariants.{P as ask_p, Nk as ask_nk};
 
 use refusals::Refusal;
 use rules::need_of;
@@ -50,7 +50,7 @@ pub fn judge(asked: Asked, amounts: &[u64]) -> Result<Judgement, Refusal>
 }
 
 fn judge_p(percent: u64, amounts: &[u64]) -> Result<Judgement, Refusal>
-    ensures { result ≡ judged (askP percent) amounts.now }
+    ensures { result ≡ judged (ask_p percent) amounts.now }
 {
     let mut rule = PPercent::new(percent)?;
     let need = need_of(&mut rule, amounts)?;
@@ -67,7 +67,7 @@ fn judge_p(percent: u64, amounts: &[u64]) -> Result<Judgement, Refusal>
 }
 
 fn judge_nk(n: u64, k: u64, amounts: &[u64]) -> Result<Judgement, Refusal>
-    ensures { result ≡ judged (askNk n k) amounts.now }
+    ensures { result ≡ judged (ask_nk n k) amounts.now }
 {
     let mut rule = NK::new(n, k)?;
     let need = need_of(&mut rule, amounts)?;

@@ -1,4 +1,4 @@
--- The definitions of the crate, in the order in which they are read.
+-- The definitions of the crate, in the order in which they are read, and the proofs of the laws that its layouts owe.
 pub mod Shape
 pub mod Answers
 pub mod Layouts

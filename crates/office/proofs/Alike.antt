@@ -186,14 +186,14 @@ module _ (F G : Figures) (like : Alike F G) where
 
   -- an answer that is no refusal comes where nothing is to be refused
   granted : (o : Option Refusal) (x a : Answer) → a ≡ unless o x → ((r : Refusal) → a ≡ refused r → ⊥) → o ≡ None
-  granted None x a e no-refusal = refl
-  granted (Some r) x a e no-refusal = absurd (no-refusal r e)
+  granted None x a e no_refusal = refl
+  granted (Some r) x a e no_refusal = absurd (no_refusal r e)
 
   accepted_same : (st : Standing) (act : Act) (a : Answer) → ((r : Refusal) → a ≡ refused r → ⊥) → Right F st act a → accepted G st act ≡ accepted F st act
-  accepted_same st (withhold cs) a no-refusal right = withhold_same st cs (granted (refusal F st (withhold cs)) _ a right no-refusal)
-  accepted_same st seek a no-refusal right = searched_same st
-  accepted_same st (print memory) a no-refusal right = λ i. record { complement = st.complement; printed = λ c. st.printed c || bare_same st c i }
-  accepted_same st (witness c side memory) a no-refusal right = refl
+  accepted_same st (withhold cs) a no_refusal right = withhold_same st cs (granted (refusal F st (withhold cs)) _ a right no_refusal)
+  accepted_same st seek a no_refusal right = searched_same st
+  accepted_same st (print memory) a no_refusal right = λ i. record { complement = st.complement; printed = λ c. st.printed c || bare_same st c i }
+  accepted_same st (witness c side memory) a no_refusal right = refl
 
   step_same : (st : Standing) (act : Act) (a : Answer) → Right F st act a → step G st act a ≡ step F st act a
   step_same st act (refused r) right = refl

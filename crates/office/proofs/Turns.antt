@@ -39,7 +39,7 @@ module _ (n m : Network) (e : m ≡ n) (d : Contribution) (whole : Result (List 
 
   pub entering_turn : (k : ℕ) (more : List Contribution) → Ok k ≡ enter_answer (shape_of m) held (get_or xs i d) → more ≡ held ++ get_or xs i d ∷ []
       → whole ≡ entered_after (shape_of n) more (drop (i + 1) xs)
-  entering_turn k more is now-held = enter_next (Ok k) is ∙ ap (λ ys. entered_after (shape_of n) ys (drop (i + 1) xs)) (sym now-held)
+  entering_turn k more is now_held = enter_next (Ok k) is ∙ ap (λ ys. entered_after (shape_of n) ys (drop (i + 1) xs)) (sym now_held)
 
   pub entering_stops : (r : Refusal) → Err r ≡ enter_answer (shape_of m) held (get_or xs i d) → whole ≡ Err r
   entering_stops r is = enter_next (Err r) is

@@ -33,10 +33,10 @@ pub record Come (F : Figures) (acts : List Act) (i : ℕ) (answers : List Answer
   pub came : Came F (history (take i acts) answers) (stands sheet)
 
 pub come_first : (acts : List Act) (answers : List Answer) (sheet : Sheet) → answers ≡ [] → stands sheet ≡ fresh → Come (figures_of sheet) acts 0 answers sheet
-come_first acts answers sheet none is-fresh = record {
+come_first acts answers sheet none is_fresh = record {
   each = ap length none;
   same = refl;
-  came = record { run = tt; led = sym is-fresh };
+  came = record { run = tt; led = sym is_fresh };
 }
 
 pub come_more : (F : Figures) (acts : List Act) (i : ℕ) (answers more : List Answer) (before after : Sheet) (act : Act) (a : Answer) → i < length acts

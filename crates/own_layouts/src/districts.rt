@@ -1,7 +1,7 @@
 // Shops in districts of equal size: a total for each district, and one for all.
 ghost use Rattle.std.specs.Prelude.{◌≡◌, ◌≤◌, true, false, MatchResult};
 ghost use Rattle.refusals.specs.declared.Refusal.TheVariants.{LayoutSize};
-ghost use Rattle.own_layouts.specs.Districts.{districts as districtsShape, districts_size};
+ghost use Rattle.own_layouts.specs.Districts.{districts as districts_shape, districts_size};
 ghost use Rattle.own_layouts.specs.Lawful.{districts_laws};
 
 use layouts::{Kind, Layout};
@@ -27,7 +27,7 @@ impl Districts {
 }
 
 impl Layout for Districts {
-    ghost shape = { λ d. districtsShape d.count d.shops };
+    ghost shape = { λ d. districts_shape d.count d.shops };
 
     ghost lawful = { λ x. districts_laws x.count x.shops x.sized.2 };
 

@@ -1,10 +1,9 @@
 // An association's own rule, written against the trait: a list of fewer than three contributors needs its whole sum.
 #![tactic(auto)]
 
-ghost use Rattle.std.specs.Prelude.{◌≡◌, ◌*◌, ◌≤◌, [], length, sum};
+ghost use Rattle.std.specs.Prelude.{◌≡◌, ◌*◌, ◌≤◌, length, sum};
 ghost use Rattle.own_rules.specs.Few.{few_need};
-ghost use Rattle.std.proofs.lemmas.List.Sorted.{sum_by-IsPermutation, length_permutation};
-ghost use Rattle.std.proofs.Common.{rules, arith};
+ghost use Rattle.own_rules.specs.FewLaws.{few_bound, few_order};
 
 use refusals::Refusal;
 use rules::Rule;
@@ -30,12 +29,9 @@ impl Rule for FewContributors {
 
     ghost stands = { λ r xs. (r.total ≡ sum xs) × (r.count ≡ length xs) };
 
-    ghost bound = { first_of (Prim.search rules, Prim.grind (arith, Self.row.coded.inj)) };
+    ghost bound = { λ _ xs. few_bound xs };
 
-    ghost order = { λ r xs ys s.
-        let t : sum ys ≡ sum xs = sum_by-IsPermutation (λ x. x) xs ys s in
-        let n : length ys ≡ length xs = length_permutation xs ys s in
-        cc };
+    ghost order = { λ _ xs ys s. few_order xs ys s };
 
     fn begin(&mut self) {
         *self = FewContributors::new();

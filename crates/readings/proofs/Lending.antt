@@ -37,15 +37,15 @@ module _ (n : Network) where
       record { reading = record { balanced = w.reading.balanced; true_figures = w.reading.true_figures }; away = w.away }
 
 -- The rows that are lent, with the marks and the network's relations as slices.
-module _ (n : Network) (rows : List Row) (marks slice leaves enters : List ℕ) (is-marks : slice ≡ marks) (is-leaves : leaves ≡ vec_items n.leaves) (is-enters : enters ≡ vec_items n.enters)
+module _ (n : Network) (rows : List Row) (marks slice leaves enters : List ℕ) (is_marks : slice ≡ marks) (is_leaves : leaves ≡ vec_items n.leaves) (is_enters : enters ≡ vec_items n.enters)
     (len : length leaves ≡ vec_len n.leaves) where
   same_arcs : arcs n.relations leaves enters ≡ network_arcs n
-  same_arcs = subst (λ (l : List ℕ). arcs n.relations l enters ≡ network_arcs n) (sym is-leaves) (ap (arcs n.relations (vec_items n.leaves)) is-enters)
+  same_arcs = subst (λ (l : List ℕ). arcs n.relations l enters ≡ network_arcs n) (sym is_leaves) (ap (arcs n.relations (vec_items n.leaves)) is_enters)
 
   lent_sound : Sound (arcs n.relations leaves enters)
   lent_sound = record {
-    left = λ c l. subst (λ (xs : List ℕ). get_or xs c 0 < n.relations) (sym is-leaves) (n.left c (omega arith));
-    entered = λ c l. subst (λ (xs : List ℕ). get_or xs c 0 < n.relations) (sym is-enters) (n.entered c (omega arith));
+    left = λ c l. subst (λ (xs : List ℕ). get_or xs c 0 < n.relations) (sym is_leaves) (n.left c (omega arith));
+    entered = λ c l. subst (λ (xs : List ℕ). get_or xs c 0 < n.relations) (sym is_enters) (n.entered c (omega arith));
   }
 
   pub lent_fit : Balanced (shape_of n) (figures rows) → ((c : ℕ) → c < vec_len n.leaves → needs rows c ≤ figures rows c)
@@ -53,7 +53,7 @@ module _ (n : Network) (rows : List Row) (marks slice leaves enters : List ℕ) 
   lent_fit b within hidden = record {
     sound = lent_sound;
     balanced = subst (λ (sh : Shape). Balanced sh (figures rows)) (sym same_arcs) b;
-    hidden = λ c l s. eq-eqb (get_or slice c 0) 1 (ap (λ (xs : List ℕ). get_or xs c 0) is-marks ∙ hidden c (omega arith) (ltb-true 0 (needs rows c) s));
+    hidden = λ c l s. eq-eqb (get_or slice c 0) 1 (ap (λ (xs : List ℕ). get_or xs c 0) is_marks ∙ hidden c (omega arith) (ltb-true 0 (needs rows c) s));
     within = λ c l _. within c (omega arith);
   }
 
@@ -61,18 +61,18 @@ module _ (n : Network) (rows : List Row) (marks slice leaves enters : List ℕ) 
   pub lent_audit : (r : Option (ℕ × Side)) → r ≡ audit (looked_at (arcs n.relations leaves enters) rows) (withheld_by slice) → r ≡ audit (looked_at (shape_of n) rows) (withheld_by marks)
   lent_audit r e =
       e ∙ ap (λ (sh : Shape). audit (looked_at sh rows) (withheld_by slice)) same_arcs ∙ same_audit n rows (withheld_by slice)
-      ∙ ap (λ (xs : List ℕ). audit (looked_at (shape_of n) rows) (withheld_by xs)) is-marks
+      ∙ ap (λ (xs : List ℕ). audit (looked_at (shape_of n) rows) (withheld_by xs)) is_marks
 
   pub lent_answer : (cell : ℕ) (side : Side) (memory : ℕ) (r : Result ℕ Refusal) → r ≡ witness_answer (looked_at (arcs n.relations leaves enters) rows) (withheld_by slice) cell side memory
       → r ≡ witness_answer (looked_at (shape_of n) rows) (withheld_by marks) cell side memory
   lent_answer cell side memory r e =
       e ∙ ap (λ (sh : Shape). witness_answer (looked_at sh rows) (withheld_by slice) cell side memory) same_arcs ∙ same_answer n rows (withheld_by slice) cell side memory
-      ∙ ap (λ (xs : List ℕ). witness_answer (looked_at (shape_of n) rows) (withheld_by xs) cell side memory) is-marks
+      ∙ ap (λ (xs : List ℕ). witness_answer (looked_at (shape_of n) rows) (withheld_by xs) cell side memory) is_marks
 
   pub lent_witness : (t : ℕ) (side : Side) (y : ℕ → ℕ) → Witness (arcs n.relations leaves enters) (withheld_by slice) (figures rows) (needs rows t) t side y
       → Witness (shape_of n) (withheld_by marks) (figures rows) (needs rows t) t side y
   lent_witness t side y w =
-      subst (λ (xs : List ℕ). Witness (shape_of n) (withheld_by xs) (figures rows) (needs rows t) t side y) is-marks
+      subst (λ (xs : List ℕ). Witness (shape_of n) (withheld_by xs) (figures rows) (needs rows t) t side y) is_marks
       (same_witness n (withheld_by slice) (figures rows) (needs rows t) t side y (subst (λ (sh : Shape). Witness sh (withheld_by slice) (figures rows) (needs rows t) t side y) same_arcs w))
 
 -- The vector of the marks, once the slice of it has come back as it was.

@@ -42,11 +42,11 @@ module _ (sh : Shape) (pass : ℕ → Bool) (y : ℕ → ℕ) (d start : ℕ) (l
       → ((r : ℕ) → (r ≡ q → ⊥) → layer' r ≡ layer r) → layer' q ≡ count
       → ((r : ℕ) → (r ≡ q → ⊥) → via' r ≡ via r) → Came sh pass y d layer' q (via' q)
       → Searched sh pass y d start layer' via' (count + 1)
-  searched_more k lq out same at-q same-via came =
+  searched_more k lq out same at_q same_via came =
       record {
         tree = λ r lr l ne. ⊎_elim
             (λ (e : r ≡ q). subst (λ i. Came sh pass y d layer' i (via' i)) (sym e) came)
-            (λ (e : r ≡ q → ⊥). subst (Came sh pass y d layer' r) (sym (same-via r e))
+            (λ (e : r ≡ q → ⊥). subst (Came sh pass y d layer' r) (sym (same_via r e))
             (came_kept same out r (via r) e (omega (arith, same r e)) (k.tree r lr (omega (arith, same r e)) ne)))
             (cases_eq r q);
         started = omega (arith, k.started, same start (λ e. omega (arith, k.started, ap layer e)));

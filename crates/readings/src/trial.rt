@@ -1,5 +1,5 @@
 // The trial of one cell on one side: its own mark is barred meanwhile, so that no path runs back through it.
-ghost use Rattle.std.specs.Prelude.{◌≡◌, ℕ, ◌+◌, ◌^◌, ◌<◌, ◌≤◌, true, false, map, length, set, slice_index, slice_set};
+ghost use Rattle.std.specs.Prelude.{◌≡◌, ℕ, ◌+◌, ◌^◌, ◌<◌, ◌≤◌, true, false, map, length, slice_index, slice_set};
 ghost use Rattle.readings.specs.Balance.{Balanced, Sound};
 ghost use Rattle.readings.specs.Exposure.{is_exposed};
 ghost use Rattle.readings.specs.Paths.{arcs, at, withheld_by};

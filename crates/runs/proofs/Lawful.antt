@@ -9,7 +9,7 @@ use Rattle.refusals.specs.Refusals.{line, side_of}
 use Rattle.page.specs.Page.{spells}
 use Rattle.readings.specs.Readings.{Reading}
 use Rattle.readings.specs.Exposure.{Figures, sensitive, is_exposed, besides, audit}
-use Rattle.readings.specs.Theorems.{Hidden, Safe as Safe-with, Audited}
+use Rattle.readings.specs.Theorems.{Hidden, Safe as SafeWith, Audited}
 use Rattle.readings.proofs.Audits.{audit_right_lem}
 use Rattle.readings.proofs.Walls.{exposed_near}
 use Rattle.runs.specs.Acts.{Act, withhold, seek, print, witness, Answer, refused, page, table, Standing, exposure, withheld, page_of, searched, step, unless, WitnessAnswer, Witnesses, Right}
@@ -72,7 +72,7 @@ module _ (F : Figures) (W : ℕ → Bool) (ps : List (List ℕ)) where
   exposes_gives_away : PagesFix → Exposes F W → GivesAway F ps
   exposes_gives_away fix (c, side, told) = (c, test_sensitive F c told.inside told.is_sensitive, no_pair fix c side told.exposed)
 
-  safe_keeps : PagesAllow → Safe-with F W → GivesAway F ps → ⊥
+  safe_keeps : PagesAllow → SafeWith F W → GivesAway F ps → ⊥
   safe_keeps allow safe (c, s, lacks) = lacks (hidden_pair allow c (safe c s.inside (sensitive_test F c s)))
 
 module _ (F : Figures) (ok : Settled F) (h : History) (k : Kept F (standing F h) (pages h)) where
@@ -96,7 +96,7 @@ module _ (F : Figures) (ok : Settled F) (h : History) (k : Kept F (standing F h)
         lower = λ i l s. hidden_pair F (withheld F st) (with_next F h) allow_next i (right.first c side f i l (sensitive_test F i s));
       }
 
-  print_law : (memory : ℕ) (a : Answer) → (AfterSearch h → Safe-with F (withheld F st)) → Right F st (print memory) a → PrintLaw F h memory a
+  print_law : (memory : ℕ) (a : Answer) → (AfterSearch h → SafeWith F (withheld F st)) → Right F st (print memory) a → PrintLaw F h memory a
   print_law memory a after = go (ltb memory (19 * F.shape.cells)) refl (audit F (withheld F st)) refl
     where
       right : Audited F (withheld F st)
@@ -176,7 +176,7 @@ module _ (F : Figures) (ok : Settled F) (h : History) (k : Kept F (standing F h)
         (search_needed F ok st k.apart k.safe c l off on);
   })
 
-  act_law : (act : Act) (a : Answer) → (AfterSearch h → Safe-with F (withheld F st)) → Right F st act a → ActLaw F h act a
+  act_law : (act : Act) (a : Answer) → (AfterSearch h → SafeWith F (withheld F st)) → Right F st act a → ActLaw F h act a
   act_law (withhold cs) a after right = tt
   act_law seek a after right = search_law a right
   act_law (print memory) a after right = print_law memory a after right
@@ -190,16 +190,16 @@ refusal_law F h act a = record {
 
 module _ (F : Figures) (ok : Settled F) where
   -- directly after a search nobody is exposed
-  after_search_safe : (h : History) → Run F h → AfterSearch h → Safe-with F (withheld F (standing F h))
+  after_search_safe : (h : History) → Run F h → AfterSearch h → SafeWith F (withheld F (standing F h))
   after_search_safe [] r z = absurd z
   after_search_safe (e ∷ h) r z = go e.0 e.1 z r.1
     where
       k : Kept F (standing F h) (pages h)
       k = kept F ok h r.0
 
-      go : (act : Act) (a : Answer) → IsSearch act → Right F (standing F h) act a → Safe-with F (withheld F (step F (standing F h) act a))
+      go : (act : Act) (a : Answer) → IsSearch act → Right F (standing F h) act a → SafeWith F (withheld F (step F (standing F h) act a))
       go (withhold cs) a z right = absurd z
-      go seek a z right = subst (λ x. Safe-with F (withheld F (step F (standing F h) seek x))) (sym right)
+      go seek a z right = subst (λ x. SafeWith F (withheld F (step F (standing F h) seek x))) (sym right)
           (search_safe F ok (standing F h) k.apart k.safe)
       go (print memory) a z right = absurd z
       go (witness c side memory) a z right = absurd z

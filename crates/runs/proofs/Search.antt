@@ -65,10 +65,10 @@ module _ (F : Figures) (ok : Settled F) (new : ℕ → Bool) where
   -- with a new cell that stayed withheld opened too, somebody would be exposed
   reopen_needed : (n : ℕ) (st : Standing) (x : ℕ) → x < n → new x ≡ true → (reopen F new n st).complement x ≡ true
       → Exposes F (besides (withheld F (reopen F new n st)) x)
-  reopen_needed zero st x l is-new on = absurd (omega arith)
-  reopen_needed (suc c) st x l is-new on =
+  reopen_needed zero st x l is_new on = absurd (omega arith)
+  reopen_needed (suc c) st x l is_new on =
       elim (cases_eq x c) [
-        | inr other ↦ reopen_needed c (reopened F new c st) x (omega arith) is-new on
+        | inr other ↦ reopen_needed c (reopened F new c st) x (omega arith) is_new on
         | inl here ↦ cond_both (opens c st) (opened c st) st
             (λ s. (reopen F new c s).complement x ≡ true → Exposes F (besides (withheld F (reopen F new c s)) x))
             (λ _ f. absurd (both_ways (eqb x c) (not-true _ (and_parts (st.complement x) _ (reopen_fewer c (opened c st) x f)).1) (eq-eqb x c here)))
@@ -89,7 +89,7 @@ module _ (F : Figures) (ok : Settled F) (new : ℕ → Bool) where
       exposed_then here e =
           elim (cases_Bool (is_some (audit F (withheld F (opened c st))))) [
             | inl found ↦ found
-            | inr none ↦ absurd (both_ways (opens c st) e (and_from _ _ (ap new (sym here) ∙ is-new) (not_from_false _ none)))
+            | inr none ↦ absurd (both_ways (opens c st) e (and_from _ _ (ap new (sym here) ∙ is_new) (not_from_false _ none)))
           ]
 
 -- A search, where each printed cell is bare and what is printed exposes nobody.

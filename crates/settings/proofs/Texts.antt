@@ -57,32 +57,32 @@ module _ (bytes : List ℕ) (end : ℕ) where
       )
 
 -- ONE TEXT AFTER ANOTHER: x has a part of A, whose text comes first, and one of B
-module _ {A B X : Type 0} (first : X → A) (second : X → B) (valid-a : A → Type 0) (text-a : A → List ℕ) (valid-b : B → Type 0) (text-b : B → List ℕ) (input : List ℕ) where
+module _ {A B X : Type 0} (first : X → A) (second : X → B) (valid_a : A → Type 0) (text_a : A → List ℕ) (valid_b : B → Type 0) (text_b : B → List ℕ) (input : List ℕ) where
   abbrev Valid : X → Type 0
-  Valid x = valid-a (first x) × valid-b (second x)
+  Valid x = valid_a (first x) × valid_b (second x)
 
   abbrev Text : X → List ℕ
-  Text x = text-a (first x) ++ text-b (second x)
+  Text x = text_a (first x) ++ text_b (second x)
 
-  first_opens : (x : X) (rest : List ℕ) → Opens Valid Text input x rest → Opens valid-a text-a input (first x) (text-b (second x) ++ rest)
-  first_opens x rest o = (o.0.0, o.1 ∙ append_assoc (text-a (first x)) (text-b (second x)) rest)
+  first_opens : (x : X) (rest : List ℕ) → Opens Valid Text input x rest → Opens valid_a text_a input (first x) (text_b (second x) ++ rest)
+  first_opens x rest o = (o.0.0, o.1 ∙ append_assoc (text_a (first x)) (text_b (second x)) rest)
 
-  pub no_first : Never valid-a text-a input → Never Valid Text input
-  no_first a x rest o = a (first x) (text-b (second x) ++ rest) (first_opens x rest o)
+  pub no_first : Never valid_a text_a input → Never Valid Text input
+  no_first a x rest o = a (first x) (text_b (second x) ++ rest) (first_opens x rest o)
 
-  module _ (p : A) (mid : List ℕ) (a : Alone valid-a text-a input p mid) where
-    pub no_second : Never valid-b text-b mid → Never Valid Text input
-    no_second b x rest o = b (second x) rest (o.0.1, (a.1 (first x) (text-b (second x) ++ rest) (first_opens x rest o)).1)
+  module _ (p : A) (mid : List ℕ) (a : Alone valid_a text_a input p mid) where
+    pub no_second : Never valid_b text_b mid → Never Valid Text input
+    no_second b x rest o = b (second x) rest (o.0.1, (a.1 (first x) (text_b (second x) ++ rest) (first_opens x rest o)).1)
 
-    pub both : (q : B) (after : List ℕ) → Alone valid-b text-b mid q after
+    pub both : (q : B) (after : List ℕ) → Alone valid_b text_b mid q after
         → (x : X) → first x ≡ p → second x ≡ q → ((y : X) → first y ≡ p → second y ≡ q → x ≡ y) → Alone Valid Text input x after
     both q after b x l r one = (
       (
-        (subst valid-a (sym l) a.0.0, subst valid-b (sym r) b.0.0),
-        a.0.1 ∙ rw (l, r) (ap (λ z. text-a p ++ z) b.0.1 ∙ sym (append_assoc (text-a p) (text-b q) after)),
+        (subst valid_a (sym l) a.0.0, subst valid_b (sym r) b.0.0),
+        a.0.1 ∙ rw (l, r) (ap (λ z. text_a p ++ z) b.0.1 ∙ sym (append_assoc (text_a p) (text_b q) after)),
       ),
       λ y rest o.
-          let h = a.1 (first y) (text-b (second y) ++ rest) (first_opens y rest o) in
+          let h = a.1 (first y) (text_b (second y) ++ rest) (first_opens y rest o) in
           let k = b.1 (second y) rest (o.0.1, h.1) in
           (one y (sym h.0) (sym k.0), k.1),
     )

@@ -27,17 +27,17 @@ begins word s h b =
     stand_at word s 0 (omega arith) b ∙ rw (e, take_rest s (length word))
 
 -- Under a word stands what is made of a part: every x whose text begins with the word is made so, and what follows the word is the part's text.
-pub record Under {A X : Type 0} (valid-a : A → Type 0) (text-a : A → List ℕ) (valid : X → Type 0) (text : X → List ℕ) (make : A → X) (word : List ℕ) : Type 0 where
-  pub kept : (a : A) → valid-a a → valid (make a)
-  pub texts : (a : A) (rest : List ℕ) → text (make a) ++ rest ≡ word ++ (text-a a ++ rest)
-  pub back : (x : X) (mid rest : List ℕ) → valid x → word ++ mid ≡ text x ++ rest → (a : A) × (x ≡ make a) × Opens valid-a text-a mid a rest
+pub record Under {A X : Type 0} (valid_a : A → Type 0) (text_a : A → List ℕ) (valid : X → Type 0) (text : X → List ℕ) (make : A → X) (word : List ℕ) : Type 0 where
+  pub kept : (a : A) → valid_a a → valid (make a)
+  pub texts : (a : A) (rest : List ℕ) → text (make a) ++ rest ≡ word ++ (text_a a ++ rest)
+  pub back : (x : X) (mid rest : List ℕ) → valid x → word ++ mid ≡ text x ++ rest → (a : A) × (x ≡ make a) × Opens valid_a text_a mid a rest
 
-module _ {A X : Type 0} {valid-a : A → Type 0} {text-a : A → List ℕ} {valid : X → Type 0} {text : X → List ℕ} {make : A → X} {word : List ℕ}
-    (under : Under valid-a text-a valid text make word) (input mid : List ℕ) (opened : input ≡ word ++ mid) where
-  pub under_none : Never valid-a text-a mid → Never valid text input
+module _ {A X : Type 0} {valid_a : A → Type 0} {text_a : A → List ℕ} {valid : X → Type 0} {text : X → List ℕ} {make : A → X} {word : List ℕ}
+    (under : Under valid_a text_a valid text make word) (input mid : List ℕ) (opened : input ≡ word ++ mid) where
+  pub under_none : Never valid_a text_a mid → Never valid text input
   under_none e x rest o = let b = under.back x mid rest o.0 (sym opened ∙ o.1) in e b.0 rest b.2
 
-  pub under_some : (a : A) (after : List ℕ) → Alone valid-a text-a mid a after → Alone valid text input (make a) after
+  pub under_some : (a : A) (after : List ℕ) → Alone valid_a text_a mid a after → Alone valid text input (make a) after
   under_some a after e = (
     (under.kept a e.0.0, opened ∙ ap (λ s. word ++ s) e.0.1 ∙ sym (under.texts a after)),
     λ x rest o.

@@ -64,10 +64,10 @@ module _ (F : Figures) (st : Standing) (c side memory : ℕ) where
           → cond b (Some (UnknownCell c)) (cond s (Some (NotSensitive c)) (cond m (Some MemorySize)
           (cond (is_exposed F.shape (withheld F st) F.figure (F.need c) c (side_of side)) (Some (Exposed c (side_of side))) None))) ≡ None
           → (c < F.shape.cells) × (F.shape.cells ≤ memory)
-      go true s m in-it is f = let z : ◌≡◌ {A = ℕ} 0 1 = cc in absurd (omega arith)
-      go false true m in-it is f = let z : ◌≡◌ {A = ℕ} 0 1 = cc in absurd (omega arith)
-      go false false true in-it is f = let z : ◌≡◌ {A = ℕ} 0 1 = cc in absurd (omega arith)
-      go false false false in-it is f = (leb-false F.shape.cells c in-it, ltb-false memory F.shape.cells is)
+      go true s m in_it is f = let z : ◌≡◌ {A = ℕ} 0 1 = cc in absurd (omega arith)
+      go false true m in_it is f = let z : ◌≡◌ {A = ℕ} 0 1 = cc in absurd (omega arith)
+      go false false true in_it is f = let z : ◌≡◌ {A = ℕ} 0 1 = cc in absurd (omega arith)
+      go false false false in_it is f = (leb-false F.shape.cells c in_it, ltb-false memory F.shape.cells is)
 
 -- THE TABLE
 -- balance looks at the cells of the layout alone
@@ -109,7 +109,7 @@ witness_stays F st c side m (Ok n) memory = refl
 witness_stays F st c side m (Err e) memory = refl
 
 module _ (s t after : Sheet) (rows : List Row) (c side : ℕ) (asked : Side) (before memory : List ℕ) (r : Result ℕ Refusal)
-    (same : SameTable s t) (bytes : vec_items t.marks ≡ bytes_of 0 (rows_of s)) (lent : rows ≡ rows_of t) (side-is : asked ≡ side_of side)
+    (same : SameTable s t) (bytes : vec_items t.marks ≡ bytes_of 0 (rows_of s)) (lent : rows ≡ rows_of t) (side_is : asked ≡ side_of side)
     (answer : r ≡ witness_answer (looked_at (shape_of t.network) rows) (withheld_by (vec_items t.marks)) c asked (length before)) where
   abbrev F : Figures
   F = figures_of s
@@ -125,7 +125,7 @@ module _ (s t after : Sheet) (rows : List Row) (c side : ℕ) (asked : Side) (be
       answer
       ∙ ap (λ (G : Figures). witness_answer G (withheld_by (vec_items t.marks)) c asked (length before)) lent_figures
       ∙ ap (λ (w : ℕ → Bool). witness_answer F w c asked (length before)) (bytes_stood s t same bytes)
-      ∙ ap (λ (d : Side). witness_answer F (withheld F st) c d (length before)) side-is
+      ∙ ap (λ (d : Side). witness_answer F (withheld F st) c d (length before)) side_is
       ∙ engine_answers F st c side (length before)
 
   pub witness_acted : SameTable t after → length memory ≡ length before
@@ -146,7 +146,7 @@ module _ (s t after : Sheet) (rows : List Row) (c side : ℕ) (asked : Side) (be
           let room = witness_room F st c side (length before) none in
           let ok : is_ok r ≡ true = ap is_ok (witness_answers ∙ ap (λ (o : Option Refusal). answered o F.shape.cells) none) in
           front_witnesses F st c (side_of side) memory room.0 (omega (arith, long, room.1))
-          (subst (λ (d : Side). Witness F.shape (withheld F st) F.figure (F.need c) c d (λ x. get_or memory x 0)) side-is
+          (subst (λ (d : Side). Witness F.shape (withheld F st) F.figure (F.need c) c d (λ x. get_or memory x 0)) side_is
           (subst (λ (w : ℕ → Bool). Witness F.shape w F.figure (F.need c) c asked (λ x. get_or memory x 0)) (bytes_stood s t same bytes)
           (subst (λ (G : Figures). Witness G.shape (withheld_by (vec_items t.marks)) G.figure (G.need c) c asked (λ x. get_or memory x 0)) lent_figures (written ok))))
 

@@ -206,13 +206,13 @@ module _ (before now : Sheet) (k n : ℕ) (so_far : Searching before (k + 1) n n
       one_more : n + 1 ≡ count_below F.shape.cells (gains after)
       one_more =
           let was : mark_at (rows_of before) k ≡ Open = sym (so_far.untried k (omega arith)) ∙ e in
-          let new-one : ◌≡◌ {A = ℕ} (cond (gains after k) 1 0) 1 =
+          let new_one : ◌≡◌ {A = ℕ} (cond (gains after k) 1 0) 1 =
           ap (λ m. cond (is_complement_mark m && not ((stands before).complement k)) 1 0) there ∙ ap (λ m. cond (not (is_complement_mark m)) 1 0) was in
-          let old-one : ◌≡◌ {A = ℕ} (cond (gains now k) 1 0) 0 = ap (λ m. cond (is_complement_mark m && not ((stands before).complement k)) 1 0) e in
+          let old_one : ◌≡◌ {A = ℕ} (cond (gains now k) 1 0) 0 = ap (λ m. cond (is_complement_mark m && not ((stands before).complement k)) 1 0) e in
           omega (
             arith,
-            new-one,
-            old-one,
+            new_one,
+            old_one,
             so_far.counts,
             sum_but F.shape.cells k (λ c. cond (gains after c) 1 0) (λ c. cond (gains now c) 1 0) in_cells
                 (λ c l ne. ap (λ m. cond (is_complement_mark m && not ((stands before).complement c)) 1 0) (elsewhere c ne)),

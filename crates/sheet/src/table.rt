@@ -2,8 +2,8 @@
 ghost use Rattle.std.specs.Prelude.{◌≡◌, ◌<◌, true, vec_len, slice_index_or, slice_set};
 ghost use Rattle.std.specs.Borrow.{sem, follows};
 ghost use Rattle.std.specs.Vec.{with_item};
-ghost use Rattle.layouts.specs.contracts.memory.Row.{the_row as the-line};
-ghost use Rattle.sheet.specs.contracts.table.Table.{the_row as the-table};
+ghost use Rattle.layouts.specs.contracts.memory.Row.{the_row as the_line};
+ghost use Rattle.sheet.specs.contracts.table.Table.{the_row as the_table};
 ghost use Rattle.sheet.specs.Cells.{is_cell, row_at};
 ghost use Rattle.sheet.specs.Events.{met};
 
@@ -28,7 +28,7 @@ impl Table {
     // The row of a cell, lent to change its mark.
     fn row(&mut self, cell: usize) -> &mut Row
         requires { cell < vec_len self.old.rows }
-        ensures* follows { sem 𝓛 (follows the-table the-line self.entry.ghost_name result.ghost_name (λ w. record { rows = with_item self.old.rows cell w })) }
+        ensures* follows { sem 𝓛 (follows the_table the_line self.entry.ghost_name result.ghost_name (λ w. record { rows = with_item self.old.rows cell w })) }
         ensures value { result.now ≡ slice_index_or self.old.rows.items cell result.now }
     {
         &mut self.rows[cell]

@@ -18,5 +18,5 @@ returns c =
     let total = stands.total in
     let few : min n 3 ≡ n = omega (arith, c.in_ok-rule.rule.ok.1, made.made.0) in
     let largest : c.of_largest.result ≡ n_largest n xs = c.of_largest.ensures.value xs stands ∙ ap (λ m. n_largest m xs) few in
-    let need-is : c.in_ok-need.need ≡ nk_need n k xs = said.1 ∙ ap (λ q. nk_need q c.in_ok-rule.rule.k xs) made.made.0 ∙ ap (λ q. nk_need n q xs) made.made.1 in
+    let need_is : c.in_ok-need.need ≡ nk_need n k xs = said.1 ∙ ap (λ q. nk_need q c.in_ok-rule.rule.k xs) made.made.0 ∙ ap (λ q. nk_need n q xs) made.made.1 in
     in_range (nk_range n k) xs _ _ made.range said.0 (cc)

@@ -17,5 +17,5 @@ returns c =
     let largest = stands.first in
     let second = stands.second in
     let rest : c.remainder.result ≡ remainder xs = c.remainder.ensures.value xs stands in
-    let need-is : c.in_ok-need.need ≡ p_need p xs = said.1 ∙ ap (λ q. p_need q xs) made.made.0 in
+    let need_is : c.in_ok-need.need ≡ p_need p xs = said.1 ∙ ap (λ q. p_need q xs) made.made.0 in
     in_range (p_range p) xs _ _ made.range said.0 (cc)

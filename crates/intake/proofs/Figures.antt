@@ -9,7 +9,7 @@ use Rattle.layouts.specs.declared.memory.Contribution.{Contribution}
 use Rattle.layouts.specs.Blank.{blank}
 use Rattle.layouts.specs.declared.memory.Row.{Row}
 use Rattle.layouts.specs.declared.memory.Mark.TheVariants.{Open}
-use Rattle.layouts.proofs.Values.{length_values, get_d_values}
+use Rattle.layouts.proofs.Values.{length_values, get_or_values}
 use Rattle.std.proofs.lemmas.List.{get_or-map}
 use Rattle.readings.specs.Rows.{figures, needs}
 use Rattle.readings.specs.Balance.{entering_sum, leaving_sum, Balanced}
@@ -94,7 +94,7 @@ module _ (s : Shape) where
 module _ (s : Shape) (laws : Laws s) (meaning : List ℕ → ℕ) (bound : (ys : List ℕ) → meaning ys ≤ sum ys) (xs : List Contribution) (at : AtLeaves s xs)
     (rows : List Row) (e : rows ≡ settled_rows s meaning xs) where
   row_at : (c : ℕ) (d : Row) → c < s.cells → get_or rows c d ≡ settled_row s meaning xs c
-  row_at c d h = ap (λ l. get_or l c d) e ∙ get_d_values s.cells (settled_row s meaning xs) c d h
+  row_at c d h = ap (λ l. get_or l c d) e ∙ get_or_values s.cells (settled_row s meaning xs) c d h
 
   pub rows_long : length rows ≡ s.cells
   rows_long = ap length e ∙ length_values s.cells (settled_row s meaning xs)

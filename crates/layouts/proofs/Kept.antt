@@ -8,7 +8,7 @@ use Rattle.layouts.specs.Shape.{Shape, Laws, Same, is_leaf}
 use Rattle.layouts.specs.Copied.{copied, values, marks_of_all}
 use Rattle.layouts.specs.Admission.{shape_of}
 use Rattle.layouts.specs.declared.network.Network.{Network}
-use Rattle.layouts.proofs.Values.{length_values, get_d_values}
+use Rattle.layouts.proofs.Values.{length_values, get_or_values}
 
 pub leaf_below : (s : Shape) (l : ℕ) → is_leaf s l ≡ true → l < s.cells
 leaf_below s l e = ltb-true l s.cells (and_parts (ltb l s.cells) (s.leaf l) e).0
@@ -65,16 +65,16 @@ module _ (s : Shape) (relations : ℕ) (leaves enters : List ℕ) (leaf under : 
       let n = s.cells in
       ap (λ m. get_or under (l * m + c) false) long
       ∙ ap (λ us. get_or us (l * n + c) false) us
-      ∙ get_d_values (n * n) (marks_of_all s) (l * n + c) false (mul-add-lt l n c n hl hc)
+      ∙ get_or_values (n * n) (marks_of_all s) (l * n + c) false (mul-add-lt l n c n hl hc)
       ∙ rw (div-mul-add l n c hc, mod-mul-add l n c hc, lt-ltb l n hl, e) refl
 
   pub copied_same : Same s (copied relations leaves enters leaf under)
   copied_same = record {
     cells = long;
     relations = rs;
-    leaf = λ c h. ap (λ xs. get_or xs c false) fs ∙ get_d_values s.cells s.leaf c false h;
-    leaves = λ c h. ap (λ xs. get_or xs c 0) ls ∙ get_d_values s.cells s.leaves c 0 h;
-    enters = λ c h. ap (λ xs. get_or xs c 0) es ∙ get_d_values s.cells s.enters c 0 h;
+    leaf = λ c h. ap (λ xs. get_or xs c false) fs ∙ get_or_values s.cells s.leaf c false h;
+    leaves = λ c h. ap (λ xs. get_or xs c 0) ls ∙ get_or_values s.cells s.leaves c 0 h;
+    enters = λ c h. ap (λ xs. get_or xs c 0) es ∙ get_or_values s.cells s.enters c 0 h;
     counts = copied_counts;
   }
 

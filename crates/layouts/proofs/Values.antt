@@ -12,8 +12,8 @@ length_values n f = length-map-range_with_len f 0 n
 pub vec_len_values : {X Z : Type 0} (n : ℕ) (f : ℕ → X) (v : Vec X Z) → vec_items v ≡ values n f → vec_len v ≡ n
 vec_len_values n f v e = v.ok.0 ∙ ap length e ∙ length_values n f
 
-pub get_d_values : {X : Type 0} (n : ℕ) (f : ℕ → X) (k : ℕ) (d : X) → k < n → get_or (values n f) k d ≡ f k
-get_d_values n f k d h = get_or-map-range_with_len f 0 n k k d h (omega arith)
+pub get_or_values : {X : Type 0} (n : ℕ) (f : ℕ → X) (k : ℕ) (d : X) → k < n → get_or (values n f) k d ≡ f k
+get_or_values n f k d h = get_or-map-range_with_len f 0 n k k d h (omega arith)
 
 pub values_push : {X : Type 0} (ws xs ys : List X) (n : ℕ) (f : ℕ → X) (x : X) → xs ≡ ws ++ values n f → ys ≡ xs ++ (x ∷ []) → x ≡ f n → ys ≡ ws ++ values (n + 1) f
 values_push ws xs ys n f x e d h =
@@ -22,7 +22,7 @@ values_push ws xs ys n f x e d h =
 values_same : {X : Type 0} (n : ℕ) (f g : ℕ → X) → ((k : ℕ) → k < n → f k ≡ g k) → values n f ≡ values n g
 values_same n f g h =
     same_lists (values n f) (values n g) (length_values n f ∙ sym (length_values n g))
-    (λ k d lt. let below : k < n = omega (arith, length_values n f) in get_d_values n f k d below ∙ h k below ∙ sym (get_d_values n g k d below))
+    (λ k d lt. let below : k < n = omega (arith, length_values n f) in get_or_values n f k d below ∙ h k below ∙ sym (get_or_values n g k d below))
 
 values_append : {X : Type 0} (a n : ℕ) (f : ℕ → X) → values a f ++ values n (λ k. f (a + k)) ≡ values (a + n) f
 values_append a zero f = append-nil (values a f) ∙ rw add-zero

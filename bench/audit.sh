@@ -1,10 +1,11 @@
 #!/usr/bin/env bash
-# Times the audit of a full grid, outside the gate: in a copy of the repository, by a program that is run and not proved.
+# Times the audit of a full grid, outside the gate: in a copy of the repository, by a program that is run and not proved. Such a
+# program is built with checks at each step, so it takes some hundred times as long as what is built of proved code.
 set -eu
 cd "$(dirname "$0")/.."
 copy=$(mktemp -d)
 trap 'rm -rf "$copy"' EXIT
-cp -r crates crates.txt "$copy"
+tar -c --exclude=out crates crates.txt | tar -x -C "$copy"
 cd "$copy"
 echo "audit_bench: readings layouts refusals" >> crates.txt
 mkdir -p crates/audit_bench/src
@@ -98,5 +99,5 @@ fn audit_patterns(rt: &HostRuntime, admitted: &mut Admitted, kind: u64) -> io::R
 }
 PROGRAM
 echo 'kind pattern passed-of-50 microseconds'
-# The run at -O3 is the one that counts; what it wrote is printed as a text on one line.
-rt try audit_bench 2>&1 | grep -A1 'native program at -O3' | sed -n 's/.*found "\(.*\)".*/\1/p' | sed 's/\\n/\n/g'
+cd crates/audit_bench
+rt try 2>&1 | grep -E '^[0-9]+ [0-9]+ [0-9]+ [0-9]+$'

@@ -1,5 +1,5 @@
 // Reading a deposit: its numbers, and the walk over its chains up to the first fault.
-ghost use Rattle.std.specs.Prelude.{◌≡◌, ◌+◌, ◌-◌, ◌*◌, ◌^◌, ◌<◌, ◌≤◌, false, [], length, replicate, is_some, vec_len, vec_capacity};
+ghost use Rattle.std.specs.Prelude.{◌≡◌, ◌+◌, ◌-◌, ◌*◌, ◌<◌, ◌≤◌, false, [], length, replicate, is_some, vec_len, vec_capacity};
 ghost use Rattle.layouts.specs.Admission.{shape_of};
 ghost use Rattle.intake.specs.Deposit.{contribution, counted, walk, word};
 ghost use Rattle.intake.specs.Walks.{came, LinkInside};

@@ -1,5 +1,6 @@
 -- The last answer of a run that searches and then prints.
-use Rattle.std.proofs.Common.{◌≡◌, ℕ, true, ◌⊎◌, List, [], ◌∷◌, ◌++◌, length, Some, None, Ok, Err, Option, Result, sym, refl, ap, ◌∙◌, inl, inr, ⊎_elim, arith, length-append}
+use Rattle.std.proofs.Common.{◌≡◌, ℕ, true, ◌⊎◌, List, [], ◌∷◌, ◌++◌, length, Some, None, Ok, Err, Option, Result, MatchResult, Vec, sym, refl, ap, ◌∙◌, inl, inr, ⊎_elim, arith, length-append}
+use Rattle.std.specs.declared.alloc.Global.{Global}
 use Rattle.refusals.specs.declared.Refusal.{Refusal}
 use Rattle.refusals.specs.declared.Refusal.TheVariants.{OutOfMemory}
 use Rattle.layouts.specs.Shape.{Shape}
@@ -11,7 +12,9 @@ use Rattle.office.specs.Office.{Answers, Ran, Refuses, figures_by, taken_in}
 use Rattle.office.specs.declared.acts.Act.{Act}
 use Rattle.office.specs.declared.acts.Act.TheVariants.{Search, Print}
 use Rattle.office.specs.declared.acts.Answer.{Answer}
+use Rattle.office.specs.declared.acts.Answer.TheVariants.{Refused, Count, Page, Table}
 use Rattle.office.specs.Histories.{answer_of}
+use Rattle.job.specs.Job.{page_in}
 
 -- a page is no refusal
 page_is : (o : Option Refusal) (p q : List ℕ) → page p ≡ unless o (page q) → p ≡ q
@@ -48,3 +51,13 @@ answered_by s meaning (Err e) acts answers ran = absurd ran
 
 pub within_limits : (s : Shape) (r : Result (List Contribution) Refusal) → admissible s ≡ true → taken_in s r ≡ r
 within_limits s r e = rw e
+
+page_in_cases : (a : Answer) → MatchResult (page_in a) (λ p. a ≡ Page p) (λ e. e ≡ OutOfMemory)
+page_in_cases (Refused r) = refl
+page_in_cases (Count n) = refl
+page_in_cases (Page p) = refl
+page_in_cases (Table figures) = refl
+
+-- the page found in an answer is the answer's, and nothing but OutOfMemory stands for another
+pub page_found : (a : Answer) (r : Result (Vec ℕ Global) Refusal) → r ≡ page_in a → MatchResult r (λ p. a ≡ Page p) (λ e. e ≡ OutOfMemory)
+page_found a r e = rw e (page_in_cases a)

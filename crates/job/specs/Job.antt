@@ -1,5 +1,6 @@
 -- What a job's input holds, the page that it comes to, and why it is refused.
-use Rattle.std.specs.Prelude.{◌≡◌, ℕ, cond, not, List, length, Some, None, Ok, Err, Option, Result, nat_lt}
+use Rattle.std.specs.Prelude.{◌≡◌, ℕ, cond, not, List, length, Some, None, Ok, Err, Option, Result, Vec, nat_lt}
+use Rattle.std.specs.declared.alloc.Global.{Global}
 use Rattle.refusals.specs.declared.Refusal.{Refusal}
 use Rattle.refusals.specs.declared.Refusal.TheVariants.{LayoutSize, RuleRange, LayoutTooLarge, DepositLength, SettingsForm, OutOfMemory}
 use Rattle.layouts.specs.Shape.{Shape}
@@ -12,6 +13,8 @@ use Rattle.settings.specs.declared.choices.Settings.{Settings}
 use Rattle.intake.specs.Deposit.{deposited}
 use Rattle.runs.specs.Acts.{fresh, page_of, searched}
 use Rattle.office.specs.Office.{figures_by}
+use Rattle.office.specs.declared.acts.Answer.{Answer}
+use Rattle.office.specs.declared.acts.Answer.TheVariants as answers
 use Rattle.job.specs.Chosen.{shape_asked, layout_range, meaning_asked, rule_range}
 
 -- why a job is refused for its size, if it is
@@ -51,3 +54,10 @@ pub data Refused (input : List ℕ) (e : Refusal) : Type 0 where
 abbrev pub unless_refused : Option Refusal → Result (Unit {0}) Refusal
 unless_refused None = Ok tt
 unless_refused (Some e) = Err e
+
+-- the page in an answer; by the law no other answer follows a search, and OutOfMemory stands for one that does
+abbrev pub page_in : Answer → Result (Vec ℕ Global) Refusal
+page_in (answers.Refused r) = Err OutOfMemory
+page_in (answers.Count n) = Err OutOfMemory
+page_in (answers.Page page) = Ok page
+page_in (answers.Table figures) = Err OutOfMemory

@@ -1,9 +1,7 @@
 // From the input to the page.
 ghost use Rattle.std.specs.Prelude.{◌≡◌, MatchResult};
-ghost use Rattle.refusals.specs.declared.Refusal.TheVariants.{OutOfMemory};
-ghost use Rattle.office.specs.declared.acts.Answer.TheVariants.{Page};
 ghost use Rattle.job.specs.Chosen.{shape_of};
-ghost use Rattle.job.specs.Job.{Printed, Refused, too_large, unless_refused};
+ghost use Rattle.job.specs.Job.{Printed, Refused, page_in, too_large, unless_refused};
 
 use crate::choosing::{make_layout, make_rule};
 use crate::chosen_layout::ChosenLayout;
@@ -33,7 +31,7 @@ fn check_size(layout: &ChosenLayout, size: usize) -> Result<(), Refusal>
 
 // The page in an answer. By the law no other answer follows a search; the refusal stands for one that does.
 fn page_of(answer: Answer) -> Result<Vec<u8>, Refusal>
-    ensures { MatchResult result (λ page. answer ≡ Page page) (λ e. e ≡ OutOfMemory) }
+    ensures { result ≡ page_in answer }
 {
     match answer {
         Answer::Page(page) => Ok(page),

@@ -1,7 +1,7 @@
 // Performing one act on a sheet.
 ghost use Rattle.std.specs.Prelude.{◌≡◌, false, is_ok, MatchResult};
 ghost use Rattle.refusals.specs.declared.Refusal.TheVariants.{OutOfMemory};
-ghost use Rattle.runs.specs.Acts.{print, seek, withhold, witness};
+ghost use Rattle.runs.specs.Acts.{print, withhold, witness};
 ghost use Rattle.sheet.specs.Sheets.{Acted};
 ghost use Rattle.office.specs.Histories.{act_of, answer_of};
 

@@ -18,8 +18,8 @@ pub struct Trials<'a> {
     pub rows: &'a [Row],
     ghost celled: { (length rows.now ≡ vec_len network.now.leaves) × (vec_len marks.now ≡ vec_len network.now.leaves) × (vec_len table.now ≡ vec_len network.now.leaves) },
     ghost related: { (vec_len layer.now ≡ network.now.relations) × (vec_len via.now ≡ network.now.relations) },
-    ghost balanced: { ((r : ℕ) → r < network.now.relations → entering_sum (shape_of network.now) (figures rows.now) r ≡ leaving_sum (shape_of network.now) (figures rows.now) r) },
-    ghost within: { ((c : ℕ) → c < vec_len network.now.leaves → needs rows.now c ≤ figures rows.now c) },
-    ghost small: { ((c : ℕ) → c < vec_len network.now.leaves → figures rows.now c ≤ 2048000000000) },
-    ghost hidden: { ((c : ℕ) → c < vec_len network.now.leaves → 0 < needs rows.now c → slice_index marks.now.items c ≡ 1) },
+    ghost balanced: { (r : ℕ) → r < network.now.relations → entering_sum (shape_of network.now) (figures rows.now) r ≡ leaving_sum (shape_of network.now) (figures rows.now) r },
+    ghost within: { (c : ℕ) → c < vec_len network.now.leaves → needs rows.now c ≤ figures rows.now c },
+    ghost small: { (c : ℕ) → c < vec_len network.now.leaves → figures rows.now c ≤ 2048000000000 },
+    ghost hidden: { (c : ℕ) → c < vec_len network.now.leaves → 0 < needs rows.now c → slice_index marks.now.items c ≡ 1 },
 }

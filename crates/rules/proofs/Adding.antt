@@ -4,7 +4,7 @@ use Rattle.std.proofs.lemmas.List.Sums.{sum_by_push}
 use Rattle.rules.specs.Largest.{placed, descending, nth_largest}
 use Rattle.rules.specs.Told.{Told}
 use Rattle.rules.specs.declared.summary.Summary.{Summary}
-use Rattle.rules.specs.Descending.{descending_push, placed_first, placed_second, placed_third}
+use Rattle.rules.proofs.Descending.{descending_push, placed_first, placed_second, placed_third}
 
 module _ (s t : Summary) (xs : List ℕ) (a : ℕ) (h : Told s xs) where
   at : (i : ℕ) → nth_largest i (xs ++ a ∷ []) ≡ get_or (placed a (descending xs)) i 0

@@ -4,7 +4,7 @@ use Rattle.std.specs.List.Sorted.{IsPermutation}
 use Rattle.std.proofs.lemmas.List.Sorted.{IsPermutation-refl, IsPermutation-cons, IsPermutation-swap, IsPermutation-trans}
 use Rattle.std.proofs.lemmas.Bool.{cases_lt}
 use Rattle.rules.specs.Largest.{placed, descending, Descends}
-use Rattle.rules.specs.Descending.{placed_first}
+use Rattle.rules.proofs.Descending.{placed_first}
 
 -- the first two in their order, or exchanged
 first_two : (x y : ℕ) (ys : List ℕ) → IsPermutation (x ∷ y ∷ ys) (max x y ∷ min x y ∷ ys)

@@ -1,3 +1,5 @@
+pub mod Descending
+pub mod NeedLaws
 pub mod Falling
 pub mod Adding
 pub mod Answering

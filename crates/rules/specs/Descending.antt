@@ -1,10 +1,10 @@
 -- `descending` does not depend on the order, and keeps the sum.
-use Rattle.std.specs.Prelude.{◌≡◌, ℕ, zero, suc, ◌+◌, ◌<◌, ◌≤◌, min, max, ◌⊎◌, List, [], ◌∷◌, ◌++◌, length, take, sum, slice_index, slice_index_or, slice_set, refl}
-use Rattle.std.proofs.Common.{sym, ap, ◌∙◌, inl, inr, ⊎_elim, arith, le_of_suc-le-suc, not-suc-le-zero}
+use Rattle.std.specs.Prelude.{◌≡◌, ℕ, zero, suc, ◌+◌, ◌<◌, ◌≤◌, min, max, ◌⊎◌, List, [], ◌∷◌, length, take, sum, slice_index, slice_index_or, slice_set, refl}
+use Rattle.std.proofs.Common.{ap, ◌∙◌, inl, inr, ⊎_elim, arith, le_of_suc-le-suc, not-suc-le-zero}
 use Rattle.std.specs.List.Sorted.{IsPermutation}
 use Rattle.std.specs.List.{swap}
 use Rattle.std.proofs.lemmas.List.Sums.{sum_by-cons, sum_by-take-le}
-use Rattle.std.proofs.lemmas.List.Sorted.{IsPermutation-keeps, IsPermutation-to_front}
+use Rattle.std.proofs.lemmas.List.Sorted.{IsPermutation-keeps}
 use Rattle.std.proofs.lemmas.Bool.{cases_lt}
 use Rattle.rules.specs.Largest.{placed, descending, n_largest}
 
@@ -56,10 +56,6 @@ pub descending_shuffled : (xs ys : List ℕ) → IsPermutation xs ys → descend
 descending_shuffled xs ys s =
     IsPermutation-keeps xs (λ l. descending l ≡ descending xs) refl (λ l i j h k e. descending_exchanged l i j h k ∙ e) ys s
 
--- one amount more, told last
-pub descending_push : (xs : List ℕ) (a : ℕ) → descending (xs ++ a ∷ []) ≡ placed a (descending xs)
-descending_push xs a = sym (descending_shuffled (xs ++ a ∷ []) (a ∷ xs) (IsPermutation-to_front xs a))
-
 -- ---- the sum
 
 sum_placed : (x : ℕ) (ys : List ℕ) → sum (placed x ys) ≡ x + sum ys
@@ -74,36 +70,6 @@ sum_descending (x ∷ xs) = omega (arith, sum_placed x (descending xs), sum_desc
 pub n_largest_le : (n : ℕ) (xs : List ℕ) → n_largest n xs ≤ sum xs
 n_largest_le n xs = omega (arith, sum_by-take-le (λ x. x) (descending xs) n, sum_descending xs)
 
--- ---- the first three places
-
--- `get_or` at 0, 1 and 2, of what one amount more makes
-module _ (a : ℕ) where
-  pub placed_first : (d : List ℕ) → slice_index (placed a d) 0 ≡ max a (slice_index d 0)
-  placed_first [] = omega arith
-  placed_first (x ∷ d) = refl
-
-  pub placed_second : (d : List ℕ) → slice_index (placed a d) 1 ≡ max (min a (slice_index d 0)) (slice_index d 1)
-  placed_second [] = omega arith
-  placed_second (x ∷ []) = omega arith
-  placed_second (x ∷ y ∷ d) = refl
-
-  pub placed_third : (d : List ℕ) → slice_index (placed a d) 2 ≡ max (min (min a (slice_index d 0)) (slice_index d 1)) (slice_index d 2)
-  placed_third [] = omega arith
-  placed_third (x ∷ []) = omega arith
-  placed_third (x ∷ y ∷ []) = omega arith
-  placed_third (x ∷ y ∷ z ∷ d) = refl
-
 pub sum_one : (d : List ℕ) → sum (take 1 d) ≡ slice_index d 0
 sum_one [] = refl
 sum_one (x ∷ d) = omega arith
-
-pub sum_two : (d : List ℕ) → sum (take 2 d) ≡ slice_index d 0 + slice_index d 1
-sum_two [] = refl
-sum_two (x ∷ []) = omega arith
-sum_two (x ∷ y ∷ d) = omega arith
-
-pub sum_three : (d : List ℕ) → sum (take 3 d) ≡ slice_index d 0 + slice_index d 1 + slice_index d 2
-sum_three [] = refl
-sum_three (x ∷ []) = omega arith
-sum_three (x ∷ y ∷ []) = omega arith
-sum_three (x ∷ y ∷ z ∷ d) = omega arith

@@ -1,18 +1,15 @@
 -- The two laws, of both needs.
 use Rattle.std.specs.Prelude.{◌≡◌, ℕ, ◌+◌, ◌-◌, ◌*◌, ◌<◌, ◌≤◌, List, sum, nat_lt}
-use Rattle.std.proofs.Common.{arith, mul-le-mul_left, mul-le-mul_right, div-lt_iff_lt-mul, le-div_iff_mul-le, mul_comm, add-mul}
+use Rattle.std.proofs.Common.{arith, mul-le-mul_left, mul-le-mul_right, div-lt_iff_lt-mul, mul_comm, add-mul}
 use Rattle.std.specs.List.Sorted.{IsPermutation}
 use Rattle.std.proofs.lemmas.List.Sorted.{sum_by-IsPermutation}
 use Rattle.std.proofs.lemmas.Bool.{cond_both}
 use Rattle.rules.specs.Largest.{descending, nth_largest, n_largest}
 use Rattle.rules.specs.Needs.{up, remainder, p_need, nk_need}
-use Rattle.rules.specs.Descending.{descending_shuffled, n_largest_le, sum_one, sum_two}
+use Rattle.rules.specs.Descending.{descending_shuffled, n_largest_le, sum_one}
 
 pub largest_le : (xs : List ℕ) → nth_largest 0 xs ≤ sum xs
 largest_le xs = omega (arith, sum_one (descending xs), n_largest_le 1 xs)
-
-pub two_largest_le : (xs : List ℕ) → nth_largest 0 xs + nth_largest 1 xs ≤ sum xs
-two_largest_le xs = omega (arith, sum_two (descending xs), n_largest_le 2 xs)
 
 -- a quotient rounded up is at most m where the dividend is at most m times the divisor
 pub up_le : (a b m : ℕ) → 0 < b → a ≤ m * b → up a b ≤ m
@@ -43,8 +40,3 @@ nk_order n k xs ys s =
     let e = descending_shuffled xs ys s in
     let t : sum ys ≡ sum xs = sum_by-IsPermutation (λ x. x) xs ys s in
     cc
-
-pub le_up : (a b m : ℕ) → 0 < b → b * m < a → m ≤ up a b
-le_up a b m pos h =
-    let le : m * b ≤ a + (b - 1) = omega (arith, mul_comm m b) in
-    (le-div_iff_mul-le {k = b} {x = m} {y = a + (b - 1)} pos).1 le

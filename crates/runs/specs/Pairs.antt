@@ -7,7 +7,7 @@ use Rattle.readings.specs.Balance.{Balanced, Sound}
 use Rattle.readings.specs.Exposure.{Figures}
 use Rattle.runs.specs.Acts.{Away}
 
--- What settling hands over: balanced figures that fit a page, over an admitted layout, and no need above its figure.
+-- What settling hands over: balanced figures that fit a page, over a layout of at most 512 cells whose relations exist, and no need above its figure.
 pub record Settled (F : Figures) : Type 0 where
   pub sound : Sound F.shape
   pub few : F.shape.cells ≤ 512

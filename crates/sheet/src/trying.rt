@@ -15,32 +15,32 @@ pub(crate) const SHOWN: u8 = 0;
 
 pub(crate) const WITHHELD: u8 = 1;
 
-fn byte_of(mark: Mark, open: u8) -> u8
-    ensures { result ≡ byte_of_mark «open» mark }
+fn byte_of(mark: Mark, byte: u8) -> u8
+    ensures { result ≡ byte_of_mark byte mark }
 {
     match mark {
-        Mark::Open => open,
+        Mark::Open => byte,
         Mark::Sensitive | Mark::Complement => WITHHELD,
         Mark::Printed | Mark::Barred => SHOWN,
     }
 }
 
-fn copy_marks(rows: &[Row], marks: &mut [u8], open: u8)
+fn copy_marks(rows: &[Row], marks: &mut [u8], byte: u8)
     requires { length marks.old ≡ length rows.now }
-    ensures { marks.new ≡ bytes_of «open» rows.now }
+    ensures { marks.new ≡ bytes_of byte rows.now }
 {
     for (cell, row) in rows.iter().enumerate() {
-        marks[cell] = byte_of(row.mark, open);
+        marks[cell] = byte_of(row.mark, byte);
     }
 }
 
 impl Sheet {
-    // Sets the mark bytes by the rows, where each open cell gets the byte `open`.
-    pub(crate) fn set_bytes(&mut self, open: u8)
+    // Sets the mark bytes by the rows, where each open cell gets the byte.
+    pub(crate) fn set_bytes(&mut self, byte: u8)
         ensures same { SameTable self.old self.new }
-        ensures bytes { self.new.marks.items ≡ bytes_of «open» (rows_of self.old) }
+        ensures bytes { self.new.marks.items ≡ bytes_of byte (rows_of self.old) }
     {
-        copy_marks(self.table.rows.as_slice(), self.marks.as_mut_slice(), open);
+        copy_marks(self.table.rows.as_slice(), self.marks.as_mut_slice(), byte);
     }
 
     // Sets the mark byte of one cell.

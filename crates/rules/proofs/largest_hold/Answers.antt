@@ -1,6 +1,6 @@
 -- Both facts are lemmas.
 use Rattle.rules.proofs.Falling.{descends}
-use Rattle.rules.specs.NeedLaws.{two_largest_le}
+use Rattle.rules.proofs.NeedLaws.{two_largest_le}
 use Rattle.rules.proofs.largest_hold.Goals as goal
 
 pub returns : goal.returns

@@ -10,7 +10,7 @@ use Rattle.office.specs.Histories.{answer_of}
 use Rattle.job.specs.Chosen.{meaning_asked, meaning_of, shape_asked, shape_of}
 use Rattle.job.specs.Job.{for_range, for_deposit, for_memory, figures_asked, too_large}
 use Rattle.job.proofs.Ranges.{early_layout, early_rule, early_size, size_refused, size_passed, passed_admissible}
-use Rattle.job.proofs.Pages.{last_page, refused_by, answered_by, within_limits}
+use Rattle.job.proofs.Pages.{last_page, page_found, refused_by, answered_by, within_limits}
 use Rattle.job.proofs.suppressing.suppress.Goals as goal
 
 pub returns-in_err-layout : goal.returns-in_err-layout
@@ -71,7 +71,7 @@ returns-in-Some c =
     let meant : meaning_of c.in_ok-rule.rule ≡ meaning_asked s.rule = λ i ys. rule.1 ys i in
     let figures : figures_by t (meaning_of c.in_ok-rule.rule) xs ≡ figures_asked s xs =
     ap (λ z. figures_by z (meaning_of c.in_ok-rule.rule) xs) lay.1 ∙ ap (λ m. figures_by (shape_asked s.layout) m xs) meant in
-    MatchResult-weaker c.page_of.result c.page_of.ensures
+    MatchResult-weaker c.page_of.result (page_found c.in-Some.answer c.page_of.result c.page_of.ensures)
     (λ page is. record {
       settings = s;
       rest = b;

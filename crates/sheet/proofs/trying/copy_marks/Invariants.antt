@@ -4,4 +4,4 @@ use Rattle.sheet.specs.Trying.{bytes_of}
 use Rattle.sheet.proofs.trying.copy_marks.Given as goal
 
 abbrev pub invariant-loop-cell : goal.invariant-loop-cell
-invariant-loop-cell l = (k : ℕ) → k < l.cell → get_or l.marks k 0 ≡ get_or (bytes_of l.«open» l.rows) k 0
+invariant-loop-cell l = (k : ℕ) → k < l.cell → get_or l.marks k 0 ≡ get_or (bytes_of l.byte l.rows) k 0

@@ -10,5 +10,5 @@ returns c = record {
   bytes =
       with_items_is c.args.self.now.marks c.copy_marks.new.marks (c.copy_marks.auto.marks ∙ c.as_mut_slice.ensures.len)
       ∙ c.copy_marks.ensures
-      ∙ ap (bytes_of c.args.«open») c.as_slice.ensures.value;
+      ∙ ap (bytes_of c.args.byte) c.as_slice.ensures.value;
 }

@@ -1,8 +1,10 @@
 // Why a list of amounts is sensitive, or is not: the figures that a rule goes by, and its need.
 #![tactic(auto)]
 
-ghost use Rattle.std.specs.Prelude.{◌≡◌};
+ghost use Rattle.std.specs.Prelude.{◌≡◌, Some};
+ghost use Rattle.std.specs.Fmt.{WritesOnOk};
 ghost use Rattle.judging.specs.Judged.{judged};
+ghost use Rattle.judging.specs.Told.{told, verdict_text};
 ghost use Rattle.judging.specs.declared.Asked.TheVariants.{P as ask_p, Nk as ask_nk};
 
 use refusals::Refusal;
@@ -84,6 +86,8 @@ fn judge_nk(n: u64, k: u64, amounts: &[u64]) -> Result<Judgement, Refusal>
 
 // The judgement in the words of an office.
 impl fmt::Display for Judgement {
+    ghost output = { λ j. Some (told j) };
+
     fn fmt<W: fmt::Write>(&self, f: &mut fmt::Formatter<W>) -> fmt::Result {
         match self {
             Judgement::P {
@@ -121,7 +125,10 @@ impl fmt::Display for Judgement {
     }
 }
 
-fn sensitive<W: fmt::Write>(f: &mut fmt::Formatter<W>, need: u64, since: &str) -> fmt::Result {
+// Whether there is a need, and why.
+fn sensitive<W: fmt::Write>(f: &mut fmt::Formatter<W>, need: u64, since: &str) -> fmt::Result
+    ensures { WritesOnOk W.write_str_gives f.old result (verdict_text need since.now) f.new }
+{
     if need > 0 {
         writeln!(f, "sensitive: yes, since {since}")?;
         write!(f, "need: {need}")

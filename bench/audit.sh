@@ -15,6 +15,7 @@ use layouts::admission::admit;
 use layouts::admitted::Admitted;
 use layouts::grid::Grid;
 use layouts::grid::GridLayout;
+use layouts::memory::Cover;
 use layouts::memory::Mark;
 use layouts::memory::Row;
 use readings::trials::Trials;
@@ -75,16 +76,13 @@ fn audit_patterns(rt: &HostRuntime, admitted: &mut Admitted, kind: u64) -> io::R
         for c in 0..512 {
             let total = c / wide == rows || c % wide == columns;
             let need = admitted.memory.rows[c].need;
-            admitted.memory.marks[c] = if is_shown(pattern, total, need, c) { 0 } else { 1 };
+            admitted.memory.bench.covers[c] = if is_shown(pattern, total, need, c) { Cover::Shown } else { Cover::Withheld };
         }
         let began = Instant::now(&rt)?;
         let mut passed = 0;
         for _ in 0..AUDITS {
             let trials = Trials {
-                marks: &mut admitted.memory.marks,
-                table: &mut admitted.memory.table,
-                layer: &mut admitted.memory.layer,
-                via: &mut admitted.memory.via,
+                bench: &mut admitted.memory.bench,
                 network: &admitted.network,
                 rows: admitted.memory.rows.as_slice(),
             };

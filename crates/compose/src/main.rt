@@ -11,6 +11,7 @@ fn main(rt: HostRuntime) -> io::Result<()> {
     rt.stdin().read_to_end(&mut input)?;
     match compose_text(heap, &input) {
         Ok(bytes) => rt.stdout().write_all(&bytes),
+        // The fault's line stands on standard output, as the deposit would.
         Err(fault) => {
             println!(rt; "{fault}")?;
             Err(io::Error::from(io::ErrorKind::InvalidInput))

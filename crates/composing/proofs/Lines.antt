@@ -4,6 +4,7 @@ use Rattle.std.specs.List.{flat_map, AllByRecursion}
 use Rattle.std.proofs.ByRecursion.{All-push}
 use Rattle.std.proofs.lemmas.List.{flat_map_more, nil_from_length}
 use Rattle.layouts.specs.declared.memory.Contribution.{Contribution}
+use Rattle.settings.specs.declared.numbers.Ending.TheVariants.{Blank, Newline}
 use Rattle.settings.specs.Line.{number_text, pair_text}
 use Rattle.settings.specs.Reading.{Alone, Never}
 use Rattle.composing.specs.declared.faults.Fault.{Fault}
@@ -16,23 +17,12 @@ pub record Begun (input : List ℕ) (xs : List Contribution) (rest : List ℕ) :
   pub is : input ≡ flat_map contribution_text xs ++ rest
   pub follows : (ys : List Contribution) → Lines input ys → (zs : List Contribution) × (ys ≡ xs ++ zs) × Lines rest zs
 
-pub begun_none : (input : List ℕ) (xs : List Contribution) → xs ≡ [] → Begun input xs input
-begun_none input xs e =
-    rw e (record { small = tt; is = refl; follows = λ ys l. (ys, refl, l) })
-
 some_text : (x : Contribution) (after : List ℕ) → 0 < length (contribution_text x ++ after)
 some_text x after =
     let a = length-append (contribution_text x) after in
-    let b = length-append (number_text 32 x.leaf) (pair_text 10 (x.company, x.amount)) in
+    let b = length-append (number_text Blank x.leaf) (pair_text Newline (x.company, x.amount)) in
     let d = length-append (decimal x.leaf) (32 ∷ []) in
     omega arith
-
--- what is left is shorter
-pub after_shorter : (rest after : List ℕ) (x : Contribution) → Alone SmallContribution contribution_text rest x after → length after < length rest
-after_shorter rest after x a =
-    let s = some_text x [] in
-    let e = ap length (append-nil (contribution_text x)) in
-    omega (arith, ap length a.0.1, length-append (contribution_text x) after)
 
 module _ (input : List ℕ) (xs : List Contribution) (rest : List ℕ) (b : Begun input xs rest) where
   module _ (left : 0 < length rest) where
@@ -41,12 +31,12 @@ module _ (input : List ℕ) (xs : List Contribution) (rest : List ℕ) (b : Begu
     no_lines never [] l = omega (arith, ap length l.is)
     no_lines never (z ∷ zs) l = never z (flat_map contribution_text zs) (l.small.0, l.is)
 
-    pub begun_never : (e : Fault) (n : ℕ) → n ≡ length xs → Never SmallContribution contribution_text rest → OnLine (n + 2) e → Broken input e
+    pub begun_never : (e : Fault) (n : ℕ) → n ≡ length xs → Never SmallContribution contribution_text rest → OnLine (n + 2) rest e → Broken input e
     begun_never e n count never line = record {
       none = λ ys l. let f = b.follows ys l in no_lines never f.0 f.2;
       xs = xs;
       rest = rest;
-      stops = record { small = b.small; is = b.is; left = left; never = never; line = subst (λ m. OnLine (m + 2) e) count line };
+      stops = record { small = b.small; is = b.is; left = left; never = never; line = subst (λ m. OnLine (m + 2) rest e) count line };
     }
 
     module _ (x : Contribution) (after : List ℕ) (a : Alone SmallContribution contribution_text rest x after) where

@@ -1,32 +1,25 @@
 -- The text that a deposit is made of: the settings line, and then a line for each contribution.
-use Rattle.std.specs.Prelude.{◌≡◌, ℕ, ◌^◌, ◌<◌, List, ◌++◌}
+use Rattle.std.specs.Prelude.{◌≡◌, ℕ, List, ◌++◌}
 use Rattle.std.specs.List.{flat_map, AllByRecursion}
-use Rattle.layouts.specs.Shape.{Shape}
-use Rattle.layouts.specs.Layouts.{grid, listed}
 use Rattle.layouts.specs.declared.memory.Contribution.{Contribution}
-use Rattle.settings.specs.Line.{number_text, pair_text, settings_text, ShortSettings}
-use Rattle.settings.specs.declared.choices.LayoutSetting.{LayoutSetting}
-use Rattle.settings.specs.declared.choices.LayoutSetting.TheVariants as layouts
+use Rattle.settings.specs.Asked.{shape_asked}
+use Rattle.settings.specs.Line.{number_text, pair_text, settings_text, UpTo, PairUpTo, ShortSettings}
 use Rattle.settings.specs.declared.choices.Settings.{Settings}
-
--- the layout that a setting names
-abbrev pub shape_of : LayoutSetting → Shape
-shape_of (layouts.Grid rows columns) = grid rows columns
-shape_of (layouts.List leaves) = listed leaves
+use Rattle.settings.specs.declared.numbers.Ending.TheVariants.{Blank, Newline}
 
 abbrev pub cells_of : Settings → ℕ
-cells_of s = (shape_of s.layout).cells
+cells_of s = (shape_asked s.layout).cells
 
--- leaf, company and amount, one blank (32) apart, and a newline (10)
+-- leaf, company and amount, one blank apart, and a newline
 abbrev pub contribution_text : Contribution → List ℕ
-contribution_text x = number_text 32 x.leaf ++ pair_text 10 (x.company, x.amount)
+contribution_text x = number_text Blank x.leaf ++ pair_text Newline (x.company, x.amount)
 
 -- numbers of 32 bits
 abbrev pub Small : ℕ → Type 0
-Small n = n < 2 ^ 32
+Small n = UpTo 4294967295 n
 
 abbrev pub SmallPair : ℕ × ℕ → Type 0
-SmallPair p = Small p.0 × Small p.1
+SmallPair p = PairUpTo 4294967295 p
 
 abbrev pub SmallContribution : Contribution → Type 0
 SmallContribution x = Small x.leaf × SmallPair (x.company, x.amount)

@@ -1,13 +1,16 @@
 // What can be wrong with a text that a deposit is to be made of.
 ghost use Rattle.std.specs.Prelude.{◌≡◌, Some};
+ghost use Rattle.composing.specs.Reading.{line_fault};
 ghost use Rattle.composing.specs.Told.{told};
 ghost use Rattle.composing.specs.declared.faults.Fault.TheVariants.{OutOfMemory};
 
+use settings::numbers::NumberFault;
 use std::alloc::{AllocError, AllocFailed};
+use std::error::Error;
 use std::fmt;
 
 // The settings stand on line 1 and the contributions from line 2 on.
-#[derive(Clone, Copy)]
+#[derive(Clone, Copy, Debug, PartialEq, Eq)]
 pub enum Fault {
     // line 1 is no settings line
     Settings,
@@ -21,6 +24,18 @@ pub enum Fault {
     TooMany,
     // want of memory
     OutOfMemory,
+}
+
+impl Fault {
+    // What is wrong with the numbers of a line.
+    pub(crate) fn on_line(line: usize, fault: NumberFault) -> Fault
+        ensures { result ≡ line_fault line fault }
+    {
+        match fault {
+            NumberFault::Form => Fault::Form { line },
+            NumberFault::TooLarge => Fault::TooLarge { line },
+        }
+    }
 }
 
 impl fmt::Display for Fault {
@@ -37,6 +52,8 @@ impl fmt::Display for Fault {
         }
     }
 }
+
+impl Error for Fault {}
 
 impl From<AllocError> for Fault {
     ghost from_gives = { λ _ r. r ≡ OutOfMemory };

@@ -2,9 +2,9 @@
 #![tactic(auto)]
 
 ghost use Rattle.std.specs.Prelude.{◌≡◌};
+ghost use Rattle.settings.specs.Asked.{shape_asked};
 ghost use Rattle.settings.specs.Line.{ShortLayout};
 ghost use Rattle.composing.specs.Reading.{ComposesText};
-ghost use Rattle.composing.specs.Text.{shape_of};
 
 use settings::{LayoutSetting, read_settings};
 use std::alloc::Global;
@@ -19,7 +19,7 @@ pub use faults::Fault;
 
 fn count_cells(layout: LayoutSetting) -> u32
     requires { ShortLayout layout }
-    ensures { result ≡ (shape_of layout).cells }
+    ensures { result ≡ (shape_asked layout).cells }
 {
     match layout {
         LayoutSetting::Grid { rows, columns } => (rows as u32 + 1) * (columns as u32 + 1),
@@ -31,9 +31,7 @@ fn count_cells(layout: LayoutSetting) -> u32
 pub fn compose_text(heap: Global, input: &[u8]) -> Result<Vec<u8>, Fault>
     ensures { ComposesText input.now result }
 {
-    let Ok((settings, rest)) = read_settings(input) else {
-        return Err(Fault::Settings);
-    };
+    let (settings, rest) = read_settings(input).map_err(|_| Fault::Settings)?;
     let contributions = read_contributions(heap, rest)?;
     let deposit = compose(heap, count_cells(settings.layout), &contributions)?;
     let mut out = Vec::from_slice(heap, &input[0..input.len() - rest.len()])?;

@@ -1,6 +1,7 @@
 // An office's desk: reads settings, contributions and a script of acts, runs the acts under the law, and tells each with its answer.
 #![tactic(auto)]
 
+use faults::Fault;
 use intake::held::Intake;
 use job::choosing::{make_layout, make_rule};
 use layouts::admission::admit;
@@ -15,6 +16,7 @@ use std::io;
 use std::io::Read;
 use telling::tell_all;
 
+mod faults;
 mod script;
 mod telling;
 
@@ -30,38 +32,34 @@ fn open_sheet(heap: Global, settings: &Settings, script: &Script) -> Result<Shee
 }
 
 // The answers to all acts of the script.
-fn run_script(heap: Global, settings: &Settings, script: &Script) -> Result<Vec<Answer>, Refusal> {
+fn run_script(
+    heap: Global,
+    settings: &Settings,
+    script: &Script,
+) -> Result<Vec<Result<Answer, Refusal>>, Refusal> {
     let layout = make_layout(settings.layout)?;
     let rule = make_rule(settings.rule)?;
     run(heap, &layout, rule, &script.contributions, &script.acts)
 }
 
-fn wrong(rt: &HostRuntime, refusal: Refusal) -> io::Result<()> {
-    println!(rt; "{refusal}")?;
-    Err(io::Error::from(io::ErrorKind::InvalidInput))
-}
-
-fn serve(rt: &HostRuntime, settings: &Settings, script: &Script) -> io::Result<()> {
-    match run_script(rt.alloc(), settings, script) {
-        Ok(answers) => match open_sheet(rt.alloc(), settings, script) {
-            Ok(sheet) => tell_all(rt, script, &answers, sheet),
-            Err(refusal) => wrong(rt, refusal),
-        },
-        Err(refusal) => wrong(rt, refusal),
-    }
+fn serve(rt: &HostRuntime) -> Result<(), Fault> {
+    let mut input = Vec::new(rt.alloc());
+    rt.stdin().read_to_end(&mut input)?;
+    let (settings, rest) = read_settings(&input)?;
+    let script = read_script(rt.alloc(), rest)?;
+    let answers = run_script(rt.alloc(), &settings, &script)?;
+    let sheet = open_sheet(rt.alloc(), &settings, &script)?;
+    tell_all(rt, &script, &answers, sheet)?;
+    Ok(())
 }
 
 fn main(rt: HostRuntime) -> io::Result<()> {
-    let mut input = Vec::new(rt.alloc());
-    rt.stdin().read_to_end(&mut input)?;
-    match read_settings(&input) {
-        Ok((settings, rest)) => match read_script(rt.alloc(), rest)? {
-            Ok(script) => serve(&rt, &settings, &script),
-            Err(line) => {
-                println!(rt; "line {line} is neither a contribution nor an act")?;
-                Err(io::Error::from(io::ErrorKind::InvalidInput))
-            }
-        },
-        Err(refusal) => wrong(&rt, refusal),
+    match serve(&rt) {
+        Ok(()) => Ok(()),
+        Err(Fault::Io(error)) => Err(error),
+        Err(fault) => {
+            println!(rt; "{fault}")?;
+            Err(io::Error::from(io::ErrorKind::InvalidInput))
+        }
     }
 }

@@ -1,24 +1,19 @@
 // The script: contributions, acts, and looks at cells, a line each.
+use crate::faults::Fault;
+use layouts::admission::MOST_CELLS;
 use layouts::memory::Contribution;
-use office::acts::Act;
-use std::alloc::{AllocError, Global};
+use office::acts::{Act, LONGEST_PAGE};
+use std::alloc::{AllocError, AllocFailed, Global};
+use std::collections::BTreeMap;
+use std::num::ParseIntError;
+use std::str::FromStr;
 
-const LONGEST_PAGE: usize = 9_728;
-
-const MOST_CELLS: usize = 512;
-
-// A look at a cell, after so many acts.
-#[derive(Clone, Copy)]
-pub struct Look {
-    pub after: usize,
-    pub cell: usize,
-}
-
+// `looks` has the cells that are looked at after so many acts.
 #[derive(Drop)]
 pub struct Script {
     pub contributions: Vec<Contribution>,
     pub acts: Vec<Act>,
-    pub looks: Vec<Look>,
+    pub looks: BTreeMap<usize, Vec<usize>>,
 }
 
 #[derive(Drop)]
@@ -26,112 +21,121 @@ enum Line {
     Contributed(Contribution),
     Acted(Act),
     Looked(usize),
-    Nothing,
-    Unknown,
 }
 
-fn number(word: Option<&str>) -> Option<usize> {
-    word?.parse::<usize>().ok()
+// Why a line is not read.
+#[derive(Debug, Drop)]
+enum LineFault {
+    Unknown,
+    OutOfMemory(AllocError),
+}
+
+impl LineFault {
+    // The fault of a script whose line of that number this is.
+    fn at(self, line: usize) -> Fault {
+        match self {
+            LineFault::Unknown => Fault::UnknownLine(line),
+            LineFault::OutOfMemory(error) => Fault::from(error),
+        }
+    }
+}
+
+impl From<ParseIntError> for LineFault {
+    fn from(_e: ParseIntError) -> LineFault {
+        LineFault::Unknown
+    }
+}
+
+impl From<AllocError> for LineFault {
+    fn from(error: AllocError) -> LineFault {
+        LineFault::OutOfMemory(error)
+    }
+}
+
+impl<T: Drop> From<AllocFailed<T>> for LineFault {
+    fn from(error: AllocFailed<T>) -> LineFault {
+        LineFault::OutOfMemory(AllocError::from(error))
+    }
+}
+
+fn number<T: FromStr<Err = ParseIntError>>(word: Option<&str>) -> Result<T, LineFault> {
+    Ok(word.ok_or(LineFault::Unknown)?.parse::<T>()?)
 }
 
 // A line `leaf company amount`.
-fn read_contribution(line: &str) -> Option<Contribution> {
+fn read_contribution(line: &str) -> Result<Contribution, LineFault> {
     let mut words = line.split(' ');
     let leaf = number(words.next())?;
-    let company = words.next()?.parse::<u32>().ok()?;
-    let amount = words.next()?.parse::<u64>().ok()?;
+    let company = number(words.next())?;
+    let amount = number(words.next())?;
     match words.next() {
-        None => Some(Contribution {
+        None => Ok(Contribution {
             leaf,
             company,
             amount,
         }),
-        Some(_) => None,
+        Some(_) => Err(LineFault::Unknown),
     }
 }
 
-fn read_cells(heap: Global, line: &str) -> Result<Option<Vec<usize>>, AllocError> {
+fn read_cells(heap: Global, words: &str) -> Result<Vec<usize>, LineFault> {
     let mut cells = Vec::new(heap);
-    for word in line.split(' ') {
-        match word.parse::<usize>() {
-            Ok(cell) => cells.push(cell)?,
-            Err(_) => return Ok(None),
-        }
+    for word in words.split(' ') {
+        cells.push(word.parse::<usize>()?)?;
     }
-    Ok(Some(cells))
+    Ok(cells)
 }
 
-fn read_witness(line: &str) -> Line {
-    let mut words = line.split(' ');
-    match (number(words.next()), number(words.next())) {
-        (Some(cell), Some(side)) => Line::Acted(Act::Witness {
-            cell,
-            side,
-            memory: MOST_CELLS,
-        }),
-        _ => Line::Unknown,
-    }
+fn read_witness(words: &str) -> Result<Act, LineFault> {
+    let mut words = words.split(' ');
+    let cell = number(words.next())?;
+    let side = number(words.next())?;
+    Ok(Act::Witness {
+        cell,
+        side,
+        memory: MOST_CELLS,
+    })
 }
 
-fn read_line(heap: Global, line: &str) -> Result<Line, AllocError> {
-    if line.is_empty() {
-        return Ok(Line::Nothing);
-    }
-    if line == "search" {
-        return Ok(Line::Acted(Act::Search));
-    }
-    if line == "print" {
-        return Ok(Line::Acted(Act::Print {
+fn read_line(heap: Global, line: &str) -> Result<Line, LineFault> {
+    Ok(match line {
+        "search" => Line::Acted(Act::Search),
+        "print" => Line::Acted(Act::Print {
             memory: LONGEST_PAGE,
-        }));
-    }
-    if line == "withhold" {
-        return Ok(Line::Acted(Act::Withhold(Vec::new(heap))));
-    }
-    if let Some(list) = line.strip_prefix("withhold ") {
-        return match read_cells(heap, list)? {
-            Some(cells) => Ok(Line::Acted(Act::Withhold(cells))),
-            None => Ok(Line::Unknown),
-        };
-    }
-    if let Some(rest) = line.strip_prefix("witness ") {
-        return Ok(read_witness(rest));
-    }
-    if let Some(rest) = line.strip_prefix("look ") {
-        return match number(Some(rest)) {
-            Some(cell) => Ok(Line::Looked(cell)),
-            None => Ok(Line::Unknown),
-        };
-    }
-    match read_contribution(line) {
-        Some(x) => Ok(Line::Contributed(x)),
-        None => Ok(Line::Unknown),
-    }
+        }),
+        "withhold" => Line::Acted(Act::Withhold(Vec::new(heap))),
+        _ => match line.split_once(' ') {
+            Some(("withhold", list)) => Line::Acted(Act::Withhold(read_cells(heap, list)?)),
+            Some(("witness", rest)) => Line::Acted(read_witness(rest)?),
+            Some(("look", cell)) => Line::Looked(cell.parse::<usize>()?),
+            _ => Line::Contributed(read_contribution(line)?),
+        },
+    })
 }
 
-// The script in the text after the settings line, or the number of the first line that says nothing known.
-pub fn read_script(heap: Global, text: &[u8]) -> Result<Result<Script, usize>, AllocError> {
+// The script in the text after the settings line. Empty lines are passed over.
+pub fn read_script(heap: Global, text: &[u8]) -> Result<Script, Fault> {
     let mut script = Script {
         contributions: Vec::new(heap),
         acts: Vec::new(heap),
-        looks: Vec::new(heap),
+        looks: BTreeMap::new(heap),
     };
     let Ok(text) = std::str::from_utf8(text) else {
-        return Ok(Err(2));
+        return Err(Fault::UnknownLine(2));
     };
-    let mut count = 1usize;
-    for line in text.lines() {
-        count = count.saturating_add(1);
-        match read_line(heap, line)? {
+    for (i, line) in text.lines().enumerate() {
+        if line.is_empty() {
+            continue;
+        }
+        match read_line(heap, line).map_err(|fault| fault.at(i.saturating_add(2)))? {
             Line::Contributed(x) => script.contributions.push(x)?,
             Line::Acted(act) => script.acts.push(act)?,
-            Line::Looked(cell) => script.looks.push(Look {
-                after: script.acts.len(),
-                cell,
-            })?,
-            Line::Nothing => {}
-            Line::Unknown => return Ok(Err(count)),
+            Line::Looked(cell) => script
+                .looks
+                .entry(script.acts.len())?
+                .or_insert(Vec::new(heap))
+                .push(cell)?,
         }
     }
-    Ok(Ok(script))
+    Ok(script)
 }

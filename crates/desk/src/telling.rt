@@ -1,53 +1,45 @@
 // Telling acts, answers and cells in words.
 use crate::script::Script;
 use layouts::memory::{Mark, Row};
-use office::acts::{Act, Answer};
+use office::acts::{Act, Answer, LONGEST_PAGE};
 use refusals::Refusal;
 use sheet::Sheet;
 use std::io;
 use std::io::Write;
 
 fn sentence(refusal: Refusal) -> &'static str {
-    match refusal.number() {
-        4 => "there is no such cell",
-        6 => "the cell is printed already",
-        7 => "the cell is not sensitive",
-        10 => "the list is too long, or the memory too short",
-        11 => "a reader could tell the cell too closely",
+    match refusal {
+        Refusal::UnknownCell { .. } => "there is no such cell",
+        Refusal::AlreadyPrinted { .. } => "the cell is printed already",
+        Refusal::NotSensitive { .. } => "the cell is not sensitive",
+        Refusal::MemorySize => "the list is too long, or the memory too short",
+        Refusal::Exposed { .. } => "a reader could tell the cell too closely",
         _ => "see the table of refusals",
     }
 }
 
 fn tell_act(rt: &HostRuntime, act: &Act) -> io::Result<()> {
     match act {
-        Act::Withhold(cells) => {
-            let count = cells.len();
-            println!(rt; "withhold {count} cells")
-        }
+        Act::Withhold(cells) => println!(rt; "withhold {} cells", cells.len()),
         Act::Search => println!(rt; "search"),
-        Act::Print { memory: _ } => println!(rt; "print"),
-        Act::Witness {
-            cell,
-            side,
-            memory: _,
-        } => println!(rt; "witness {cell} {side}"),
+        Act::Print { .. } => println!(rt; "print"),
+        Act::Witness { cell, side, .. } => println!(rt; "witness {cell} {side}"),
     }
 }
 
-fn tell_answer(rt: &HostRuntime, answer: &Answer) -> io::Result<()> {
+fn tell_answer(rt: &HostRuntime, answer: &Result<Answer, Refusal>) -> io::Result<()> {
     match answer {
-        Answer::Refused(refusal) => {
-            let why = sentence(*refusal);
-            println!(rt; "  {refusal}: {why}; all stands as it was")
-        }
-        Answer::Count(count) => println!(rt; "  accepted, {count} cells"),
-        Answer::Page(page) => rt.stdout().write_all(page),
-        Answer::Table(table) => {
+        Ok(Answer::Count(count)) => println!(rt; "  accepted, {count} cells"),
+        Ok(Answer::Page(page)) => rt.stdout().write_all(page),
+        Ok(Answer::Table(table)) => {
             println!(rt; "  accepted, a table that a reader must hold possible:")?;
             for figure in table.iter() {
                 print!(rt; " {figure}")?;
             }
             println!(rt; "")
+        }
+        Err(refusal) => {
+            println!(rt; "  {refusal}: {}; all stands as it was", sentence(*refusal))
         }
     }
 }
@@ -64,11 +56,11 @@ fn word_of(mark: Mark) -> &'static str {
 
 fn tell_cell(rt: &HostRuntime, cell: usize, looked: Result<Row, Refusal>) -> io::Result<()> {
     match looked {
-        Ok(row) => {
-            let figure = row.figure;
-            let need = row.need;
-            let mark = word_of(row.mark);
-            println!(rt; "look {cell}: figure {figure}, need {need}, {mark}")
+        Ok(Row { figure, need, mark }) => {
+            println!(rt;
+                "look {cell}: figure {figure}, need {need}, {}",
+                word_of(mark)
+            )
         }
         Err(refusal) => println!(rt; "look {cell}: {refusal}"),
     }
@@ -83,22 +75,18 @@ fn follow(sheet: &mut Sheet, act: &Act) {
         Act::Search => {
             let _ = sheet.search();
         }
-        Act::Print { memory: _ } => {
-            let mut page = [0u8; 9_728];
+        Act::Print { .. } => {
+            let mut page = [0u8; LONGEST_PAGE];
             let _ = sheet.print(&mut page);
         }
-        Act::Witness {
-            cell: _,
-            side: _,
-            memory: _,
-        } => {}
+        Act::Witness { .. } => {}
     }
 }
 
 fn tell_looks(rt: &HostRuntime, script: &Script, after: usize, sheet: &Sheet) -> io::Result<()> {
-    for look in script.looks.iter() {
-        if look.after == after {
-            tell_cell(rt, look.cell, sheet.look(look.cell))?;
+    if let Some(cells) = script.looks.get(&after) {
+        for cell in cells {
+            tell_cell(rt, *cell, sheet.look(*cell))?;
         }
     }
     Ok(())
@@ -108,15 +96,13 @@ fn tell_looks(rt: &HostRuntime, script: &Script, after: usize, sheet: &Sheet) ->
 pub fn tell_all(
     rt: &HostRuntime,
     script: &Script,
-    answers: &Vec<Answer>,
+    answers: &[Result<Answer, Refusal>],
     mut sheet: Sheet,
 ) -> io::Result<()> {
-    for (i, act) in script.acts.iter().enumerate() {
+    for (i, (act, answer)) in script.acts.iter().zip(answers).enumerate() {
         tell_looks(rt, script, i, &sheet)?;
         tell_act(rt, act)?;
-        if let Some(answer) = answers.get(i) {
-            tell_answer(rt, answer)?;
-        }
+        tell_answer(rt, answer)?;
         follow(&mut sheet, act);
     }
     tell_looks(rt, script, script.acts.len(), &sheet)

@@ -9,26 +9,19 @@ mod cases;
 mod tables;
 
 fn main(rt: HostRuntime) -> io::Result<()> {
+    let heap = rt.alloc();
     println!(rt; "grid A")?;
-    printing(&rt, grid_sheet(rt.alloc(), 20), &[1, 3])?;
-    searching(&rt, grid_sheet(rt.alloc(), 20))?;
-    long_list(&rt, grid_sheet(rt.alloc(), 20))?;
-    printed_twice(&rt, grid_sheet(rt.alloc(), 20))?;
+    printing(&rt, grid_sheet(heap, 20), &[1, 3])?;
+    searching(&rt, grid_sheet(heap, 20))?;
+    long_list(&rt, grid_sheet(heap, 20))?;
+    printed_twice(&rt, grid_sheet(heap, 20))?;
     println!(rt; "grid B")?;
-    printing(&rt, grid_sheet(rt.alloc(), 19), &[1, 3, 4])?;
-    searching(&rt, grid_sheet(rt.alloc(), 19))?;
+    printing(&rt, grid_sheet(heap, 19), &[1, 3, 4])?;
+    searching(&rt, grid_sheet(heap, 19))?;
     println!(rt; "the 4 by 4 table")?;
-    printing(&rt, literature_sheet(rt.alloc()), &[2, 7, 8, 15, 18])?;
-    printing(
-        &rt,
-        literature_sheet(rt.alloc()),
-        &[1, 2, 5, 6, 7, 8, 15, 18],
-    )?;
-    witnessing(
-        &rt,
-        literature_sheet(rt.alloc()),
-        &[1, 2, 5, 6, 7, 8, 15, 18],
-    )?;
+    printing(&rt, literature_sheet(heap), &[2, 7, 8, 15, 18])?;
+    printing(&rt, literature_sheet(heap), &[1, 2, 5, 6, 7, 8, 15, 18])?;
+    witnessing(&rt, literature_sheet(heap), &[1, 2, 5, 6, 7, 8, 15, 18])?;
     println!(rt; "limits")?;
     opening(&rt, 15)?;
     opening(&rt, 16)?;

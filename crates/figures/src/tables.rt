@@ -8,13 +8,17 @@ use rules::p_percent::PPercent;
 use sheet::Sheet;
 use std::alloc::Global;
 
-// Many contributions of one amount at a leaf, each of a company of its own.
-fn enter_many(
-    intake: &mut Intake<PPercent>,
-    leaf: usize,
-    many: u32,
-    amount: u64,
-) -> Result<(), Refusal> {
+// Contributions of one amount at a leaf, each of a company of its own: the leaf, how many, and the amount.
+type Group = (usize, u32, u64);
+
+// The intake of a grid with as many rows as columns, under the P% rule.
+pub fn open_square(heap: Global, side: usize, p: u64) -> Result<Intake<PPercent>, Refusal> {
+    let admitted = admit(heap, &Grid::new(side, side)?)?;
+    Ok(Intake::open(admitted, PPercent::new(p)?))
+}
+
+fn enter_group(intake: &mut Intake<PPercent>, group: Group) -> Result<(), Refusal> {
+    let (leaf, many, amount) = group;
     for company in 0..many {
         let _ = intake.enter(Contribution {
             leaf,
@@ -25,37 +29,48 @@ fn enter_many(
     Ok(())
 }
 
-// Grid A has twenty of 1 in cell 1, and grid B nineteen.
-pub fn grid_sheet(heap: Global, ones: u32) -> Result<Sheet, Refusal> {
-    let admitted = admit(heap, &Grid::new(2, 2)?)?;
-    let mut intake = Intake::open(admitted, PPercent::new(20)?);
-    enter_many(&mut intake, 0, 1, 150)?;
-    enter_many(&mut intake, 0, 1, 40)?;
-    enter_many(&mut intake, 0, 1, 10)?;
-    enter_many(&mut intake, 1, ones, 1)?;
-    enter_many(&mut intake, 3, 4, 25)?;
-    enter_many(&mut intake, 4, 4, 75)?;
+// The sheet of a square grid into which the groups were entered in turn.
+fn square_sheet(heap: Global, side: usize, p: u64, groups: &[Group]) -> Result<Sheet, Refusal> {
+    let mut intake = open_square(heap, side, p)?;
+    for group in groups {
+        enter_group(&mut intake, *group)?;
+    }
     Ok(Sheet::new(intake.settle()))
 }
 
-const INNER: [[u32; 4]; 4] = [
-    [100, 12, 5, 250],
-    [12, 12, 5, 5],
-    [40, 200, 90, 300],
-    [5, 70, 50, 5],
-];
+// Grid A has twenty of 1 in cell 1, and grid B nineteen.
+pub fn grid_sheet(heap: Global, ones: u32) -> Result<Sheet, Refusal> {
+    let groups = [
+        (0, 1, 150),
+        (0, 1, 40),
+        (0, 1, 10),
+        (1, ones, 1),
+        (3, 4, 25),
+        (4, 4, 75),
+    ];
+    square_sheet(heap, 2, 20, &groups)
+}
 
 // The first cell is one contribution of 100, and every other cell as many of 1 as its figure.
+const LITERATURE: [Group; 16] = [
+    (0, 1, 100),
+    (1, 12, 1),
+    (2, 5, 1),
+    (3, 250, 1),
+    (5, 12, 1),
+    (6, 12, 1),
+    (7, 5, 1),
+    (8, 5, 1),
+    (10, 40, 1),
+    (11, 200, 1),
+    (12, 90, 1),
+    (13, 300, 1),
+    (15, 5, 1),
+    (16, 70, 1),
+    (17, 50, 1),
+    (18, 5, 1),
+];
+
 pub fn literature_sheet(heap: Global) -> Result<Sheet, Refusal> {
-    let admitted = admit(heap, &Grid::new(4, 4)?)?;
-    let mut intake = Intake::open(admitted, PPercent::new(15)?);
-    enter_many(&mut intake, 0, 1, 100)?;
-    for row in 0..4usize {
-        for column in 0..4usize {
-            if row + column > 0 {
-                enter_many(&mut intake, row * 5 + column, INNER[row][column], 1)?;
-            }
-        }
-    }
-    Ok(Sheet::new(intake.settle()))
+    square_sheet(heap, 4, 15, &LITERATURE)
 }

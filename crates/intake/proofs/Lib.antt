@@ -3,7 +3,6 @@ pub mod Shuffles
 pub mod Entered
 pub mod Walking
 pub mod Settles
-pub mod Figures
 pub mod Deposits
+pub mod Figures
 pub mod Goods
-pub mod Loads

@@ -1,39 +1,36 @@
 -- What a link of a chain leads to.
-use Rattle.std.proofs.Common.{◌≡◌, ℕ, zero, suc, ◌≤◌, List, [], ◌∷◌, ◌++◌, length, get_or, refl, ⊎_elim, arith}
+use Rattle.std.proofs.Common.{◌≡◌, ℕ, zero, suc, ◌≤◌, Some, None, Option, List, [], ◌∷◌, ◌++◌, length, get_or, refl, ⊎_elim, arith}
 use Rattle.std.proofs.lemmas.Bool.{cases_eq, eq-eqb, ne_eqb}
 use Rattle.std.proofs.lemmas.List.{get_or_append_left}
 use Rattle.intake.specs.Chains.{latest, chain_amounts}
 
--- the latest of the first n is one of them, and of the leaf
-pub latest_within : (l : ℕ) (leaves : List ℕ) (n : ℕ) → latest l leaves n ≤ n
+-- how many records there are up to the one that a link names
+abbrev pub up_to : Option ℕ → ℕ
+up_to None = 0
+up_to (Some at) = suc at
+
+-- the latest of the first n is one of them
+pub latest_within : (l : ℕ) (leaves : List ℕ) (n : ℕ) → up_to (latest l leaves n) ≤ n
 latest_within l leaves zero = omega arith
 latest_within l leaves (suc n) =
     ⊎_elim (λ (e : get_or leaves n 0 ≡ l). rw (eq-eqb (get_or leaves n 0) l e) (omega arith))
     (λ (d : get_or leaves n 0 ≡ l → ⊥). rw (ne_eqb (get_or leaves n 0) l d) (omega (arith, latest_within l leaves n)))
     (cases_eq (get_or leaves n 0) l)
 
-module _ (l : ℕ) (leaves amounts : List ℕ) where
-  -- a chain ends at the link 0
-  pub chain_none : (n : ℕ) → latest l leaves n ≡ 0 → chain_amounts l leaves amounts n ≡ []
-  chain_none zero e = refl
-  chain_none (suc n) e =
-      ⊎_elim (λ (y : get_or leaves n 0 ≡ l). let t = rw (eq-eqb (get_or leaves n 0) l y) at e in absurd (omega arith))
-      (λ (d : get_or leaves n 0 ≡ l → ⊥). let t = rw (ne_eqb (get_or leaves n 0) l d) at e in rw (ne_eqb (get_or leaves n 0) l d) (chain_none n t))
-      (cases_eq (get_or leaves n 0) l)
-
-  -- at any other link stands a record of the leaf, and the chain goes on before it
-  pub chain_more : (n j : ℕ) → latest l leaves n ≡ suc j → (get_or leaves j 0 ≡ l) × (chain_amounts l leaves amounts n ≡ get_or amounts j 0 ∷ chain_amounts l leaves amounts j)
-  chain_more zero j e = absurd (omega arith)
-  chain_more (suc n) j e =
-      ⊎_elim (λ (y : get_or leaves n 0 ≡ l).
-      let t = rw (eq-eqb (get_or leaves n 0) l y) at e in
-      let same : j ≡ n = omega arith in
-      rw same (y, rw (eq-eqb (get_or leaves n 0) l y)))
-      (λ (d : get_or leaves n 0 ≡ l → ⊥).
-      let t = rw (ne_eqb (get_or leaves n 0) l d) at e in
-      let r = chain_more n j t in
-      (r.0, rw (ne_eqb (get_or leaves n 0) l d) r.1))
-      (cases_eq (get_or leaves n 0) l)
+-- it is of the leaf, and the chain goes on before it
+pub chain_more : (l : ℕ) (leaves amounts : List ℕ) (n at : ℕ) → latest l leaves n ≡ Some at
+    → (get_or leaves at 0 ≡ l) × (chain_amounts l leaves amounts n ≡ get_or amounts at 0 ∷ chain_amounts l leaves amounts at)
+chain_more l leaves amounts zero at e = cc
+chain_more l leaves amounts (suc n) at e =
+    ⊎_elim (λ (y : get_or leaves n 0 ≡ l).
+    let t = rw (eq-eqb (get_or leaves n 0) l y) at e in
+    let same : at ≡ n = cc in
+    rw same (y, rw (eq-eqb (get_or leaves n 0) l y)))
+    (λ (d : get_or leaves n 0 ≡ l → ⊥).
+    let t = rw (ne_eqb (get_or leaves n 0) l d) at e in
+    let r = chain_more l leaves amounts n at t in
+    (r.0, rw (ne_eqb (get_or leaves n 0) l d) r.1))
+    (cases_eq (get_or leaves n 0) l)
 
 -- one record more leaves the earlier ones as they were
 pub latest_push : (l : ℕ) (leaves : List ℕ) (x n : ℕ) → n ≤ length leaves → latest l (leaves ++ x ∷ []) n ≡ latest l leaves n
@@ -42,7 +39,7 @@ latest_push l leaves x (suc n) h =
     rw (get_or_append_left leaves (x ∷ []) 0 n (omega arith), latest_push l leaves x n (omega arith))
 
 -- the latest is its own latest
-pub latest_again : (l : ℕ) (leaves : List ℕ) (n : ℕ) → latest l leaves (latest l leaves n) ≡ latest l leaves n
+pub latest_again : (l : ℕ) (leaves : List ℕ) (n : ℕ) → latest l leaves (up_to (latest l leaves n)) ≡ latest l leaves n
 latest_again l leaves zero = refl
 latest_again l leaves (suc n) =
     ⊎_elim (λ (e : get_or leaves n 0 ≡ l). rw (eq-eqb (get_or leaves n 0) l e, eq-eqb (get_or leaves n 0) l e))
@@ -50,7 +47,7 @@ latest_again l leaves (suc n) =
     (cases_eq (get_or leaves n 0) l)
 
 -- and the chain from it on is the whole chain
-pub chain_latest : (l : ℕ) (leaves amounts : List ℕ) (n : ℕ) → chain_amounts l leaves amounts n ≡ chain_amounts l leaves amounts (latest l leaves n)
+pub chain_latest : (l : ℕ) (leaves amounts : List ℕ) (n : ℕ) → chain_amounts l leaves amounts n ≡ chain_amounts l leaves amounts (up_to (latest l leaves n))
 chain_latest l leaves amounts zero = refl
 chain_latest l leaves amounts (suc n) =
     ⊎_elim (λ (e : get_or leaves n 0 ≡ l). rw (eq-eqb (get_or leaves n 0) l e, eq-eqb (get_or leaves n 0) l e))

@@ -1,5 +1,5 @@
 -- The chains of the leaves that count under a cell give its figure and its need.
-use Rattle.std.proofs.Common.{◌≡◌, ℕ, suc, ◌+◌, ◌-◌, ◌<◌, ◌≤◌, Bool, true, false, cond, List, [], ◌∷◌, ◌++◌, length, get_or, sum, sym, ap, ◌∙◌, subst, ⊎_elim, append_assoc, append-nil, add-one, arith, length-append}
+use Rattle.std.proofs.Common.{◌≡◌, ℕ, suc, ◌+◌, ◌-◌, ◌<◌, ◌≤◌, Bool, true, false, cond, Option, List, [], ◌∷◌, ◌++◌, length, sum, sym, ap, ◌∙◌, subst, ⊎_elim, append_assoc, append-nil, add-one, arith, length-append}
 use Rattle.std.specs.List.Sorted.{IsPermutation}
 use Rattle.std.proofs.lemmas.List.{length-map}
 use Rattle.std.proofs.lemmas.List.Sorted.{length_permutation, sum_by-IsPermutation}
@@ -9,9 +9,9 @@ use Rattle.layouts.specs.declared.memory.Contribution.{Contribution}
 use Rattle.layouts.specs.declared.memory.Record.{Record}
 use Rattle.layouts.specs.declared.memory.Mark.{Mark}
 use Rattle.intake.specs.Contributions.{amounts_under, figure_of, need_of}
-use Rattle.intake.specs.Chains.{held, leaf_list, amount_list, next_list, latest, chain_amounts, chains_from}
+use Rattle.intake.specs.Chains.{Chained, held, leaf_list, amount_list, chain_amounts, chains_from}
 use Rattle.intake.specs.Marks.{first_mark}
-use Rattle.intake.specs.Settling.{Chained, settled_row}
+use Rattle.intake.specs.Settling.{settled_row}
 use Rattle.intake.proofs.Shuffles.{under_all}
 
 -- the chain of the leaf m, and then those of the leaves after it
@@ -32,7 +32,7 @@ fewer_under s (x ∷ xs) c =
     (λ (e : s.counts c x.leaf ≡ false). rw e (omega (arith, fewer_under s xs c)))
     (cases_Bool (s.counts c x.leaf))
 
-module _ (s : Shape) (rs : List Record) (heads : List ℕ) (k : Chained rs heads) (c : ℕ) where
+module _ (s : Shape) (rs : List Record) (heads : List (Option ℕ)) (k : Chained rs heads) (c : ℕ) where
   abbrev pub whole : List ℕ
   whole = chains_from (s.counts c) (leaf_list (held rs)) (amount_list (held rs)) (length rs) 0 (length heads)
 
@@ -72,18 +72,3 @@ pub row_meaning : (s : Shape) (m n : List ℕ → ℕ) (xs : List Contribution) 
 row_meaning s m n xs c e =
     let d = e (amounts_under s xs c) in
     λ i. record { figure = figure_of s xs c; need = d i; mark = first_mark (d i) }
-
--- what an intake keeps, by the lengths of its lists
-pub chained_from : (rs : List Record) (heads : List ℕ) (n cells : ℕ) → length rs ≡ n → length heads ≡ cells → n ≤ 2048
-    → ((i : ℕ) → i < n → get_or (leaf_list (held rs)) i 0 < cells)
-    → ((i : ℕ) → i < n → get_or (amount_list (held rs)) i 0 ≤ 1000000000)
-    → ((l : ℕ) → l < cells → get_or heads l 0 ≡ latest l (leaf_list (held rs)) n)
-    → ((i : ℕ) → i < n → get_or (next_list rs) i 0 ≡ latest (get_or (leaf_list (held rs)) i 0) (leaf_list (held rs)) i)
-    → Chained rs heads
-chained_from rs heads n cells e d few leafy small headed linked = record {
-  few = omega arith;
-  leafy = λ i h. omega (arith, leafy i (omega arith));
-  small = λ i h. small i (omega arith);
-  headed = λ l h. headed l (omega arith) ∙ ap (latest l (leaf_list (held rs))) (sym e);
-  linked = λ i h. linked i (omega arith);
-}

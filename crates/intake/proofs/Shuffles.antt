@@ -3,23 +3,11 @@ use Rattle.std.proofs.Common.{◌≡◌, ℕ, zero, suc, ◌+◌, ◌<◌, ◌�
 use Rattle.std.specs.List.Sorted.{IsPermutation}
 use Rattle.std.proofs.lemmas.List.{get_or-map}
 use Rattle.std.proofs.lemmas.Bool.{cases_eq, cases_Bool, eq-eqb, ne_eqb}
-use Rattle.std.proofs.lemmas.List.Sorted.{IsPermutation-refl, IsPermutation-cons, IsPermutation-swap, IsPermutation-trans, IsPermutation-to_front}
+use Rattle.std.proofs.lemmas.List.Sorted.{IsPermutation-refl, IsPermutation-sym, IsPermutation-trans, IsPermutation-middle, IsPermutation-append_right, IsPermutation-push_more}
 use Rattle.layouts.specs.Shape.{Shape}
 use Rattle.layouts.specs.declared.memory.Contribution.{Contribution}
 use Rattle.intake.specs.Contributions.{amounts_under}
 use Rattle.intake.specs.Chains.{leaf_list, amount_list, chain_amounts, chains_from}
-
--- one amount put in at any place
-pub shuffled_insert : (a : ℕ) (xs ys : List ℕ) → IsPermutation (a ∷ (xs ++ ys)) (xs ++ a ∷ ys)
-shuffled_insert a [] ys = IsPermutation-refl (a ∷ ys)
-shuffled_insert a (x ∷ xs) ys =
-    IsPermutation-trans (a ∷ x ∷ (xs ++ ys)) (x ∷ a ∷ (xs ++ ys)) (x ∷ (xs ++ a ∷ ys))
-    (IsPermutation-swap (a ∷ x ∷ (xs ++ ys)) (x ∷ a ∷ (xs ++ ys)) 0 1 (omega arith) (omega arith) refl)
-    (IsPermutation-cons x (a ∷ (xs ++ ys)) (xs ++ a ∷ ys) (shuffled_insert a xs ys))
-
-pub shuffled_after : (zs xs ys : List ℕ) → IsPermutation xs ys → IsPermutation (zs ++ xs) (zs ++ ys)
-shuffled_after [] xs ys s = s
-shuffled_after (z ∷ zs) xs ys s = IsPermutation-cons z (zs ++ xs) (zs ++ ys) (shuffled_after zs xs ys s)
 
 module _ (test : ℕ → Bool) (leaves amounts : List ℕ) (n : ℕ) where
   -- the record n is of another leaf
@@ -51,7 +39,7 @@ module _ (test : ℕ → Bool) (leaves amounts : List ℕ) (n : ℕ) where
       let old = chains_from test leaves amounts n (suc m) k in
       let new = chains_from test leaves amounts (suc n) (suc m) k in
       let rest = chains_insert (suc m) k (omega arith) (omega arith) t in
-      rw (chain_other m d) (IsPermutation-trans (a ∷ (front ++ old)) (front ++ a ∷ old) (front ++ new) (shuffled_insert a front old) (shuffled_after front (a ∷ old) new rest)))
+      rw (chain_other m d) (IsPermutation-trans (a ∷ (front ++ old)) (front ++ a ∷ old) (front ++ new) (IsPermutation-sym (front ++ a ∷ old) (a ∷ (front ++ old)) (IsPermutation-middle front a old)) (IsPermutation-append_right front (a ∷ old) new rest)))
       (cases_eq (get_or leaves n 0) m)
 
 none_yet : Contribution
@@ -93,9 +81,7 @@ module _ (s : Shape) (xs : List Contribution) (c : ℕ) where
       (λ (e : s.counts c x.leaf ≡ true).
       let yes : s.counts c (get_or (leaf_list xs) n 0) ≡ true = ap (s.counts c) leaf_is ∙ e in
       let more = chains_insert (s.counts c) (leaf_list xs) (amount_list xs) n 0 cells (omega arith) (omega arith) yes in
-      rw (step, e) (IsPermutation-trans (old ++ x.amount ∷ []) (x.amount ∷ old) last (IsPermutation-to_front old x.amount)
-      (IsPermutation-trans (x.amount ∷ old) (x.amount ∷ first) last (IsPermutation-cons x.amount old first before)
-      (rw (← amount_is) more))))
+      rw (step, e) (IsPermutation-push_more old first last x.amount before (rw (← amount_is) more)))
       (λ (e : s.counts c x.leaf ≡ false).
       let no : s.counts c (get_or (leaf_list xs) n 0) ≡ false = ap (s.counts c) leaf_is ∙ e in
       let same : last ≡ first = chains_other (s.counts c) (leaf_list xs) (amount_list xs) n 0 cells (λ l low high is. subst (λ l. s.counts c l ≡ false) is no) in

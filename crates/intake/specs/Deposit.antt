@@ -1,5 +1,5 @@
 -- A deposit: numbers of four bytes, the chain of each cell through its records, and the walk over them up to the first fault.
-use Rattle.std.specs.Prelude.{ℕ, zero, suc, ◌+◌, ◌-◌, ◌*◌, Bool, true, false, cond, not, ◌&&◌, List, [], ◌∷◌, ◌++◌, length, replicate, Ok, Err, Result, ◌==◌, nat_lt, slice_index, slice_index_or, slice_set}
+use Rattle.std.specs.Prelude.{ℕ, zero, suc, ◌+◌, ◌*◌, Bool, true, false, cond, not, ◌&&◌, List, [], ◌∷◌, ◌++◌, length, replicate, Some, None, Ok, Err, Option, Result, is_some, ◌==◌, nat_le, nat_lt, slice_index, slice_index_or, slice_set}
 use Rattle.refusals.specs.declared.Refusal.{Refusal}
 use Rattle.refusals.specs.declared.Refusal.TheVariants.{NotALeaf, AmountTooLarge, TooManyContributions, DepositLength, DepositCells, LinkTooLarge, RecordReached, RecordUnreached}
 use Rattle.layouts.specs.Shape.{Shape}
@@ -15,23 +15,28 @@ cell_count bytes = word bytes 0
 abbrev pub record_count : List ℕ → ℕ
 record_count bytes = word bytes 1
 
--- After the two counts come the heads of the cells, and then the records, which count from 1: company, amount, next.
-abbrev pub head : List ℕ → ℕ → ℕ
-head bytes c = word bytes (2 + c)
+-- a link, which is written as a number counted from 1, or as 0 where there is none: the place of a record
+abbrev pub link : ℕ → Option ℕ
+link zero = None
+link (suc at) = Some at
+
+-- After the two counts come the heads of the cells, and then the records: company, amount, next.
+abbrev pub head : List ℕ → ℕ → Option ℕ
+head bytes c = link (word bytes (2 + c))
 
 abbrev pub record_place : ℕ → ℕ → ℕ
-record_place cells link = 2 + cells + 3 * (link - 1)
+record_place cells at = 2 + cells + 3 * at
 
--- the record of that number, as a contribution at the cell c
+-- the record at that place, as a contribution at the cell c
 abbrev pub contribution : ℕ → List ℕ → ℕ → ℕ → Contribution
-contribution cells bytes c link = record {
+contribution cells bytes c at = record {
   leaf = c;
-  company = word bytes (record_place cells link);
-  amount = word bytes (record_place cells link + 1);
+  company = word bytes (record_place cells at);
+  amount = word bytes (record_place cells at + 1);
 }
 
-abbrev pub next : ℕ → List ℕ → ℕ → ℕ
-next cells bytes link = word bytes (record_place cells link + 2)
+abbrev pub next : ℕ → List ℕ → ℕ → Option ℕ
+next cells bytes at = link (word bytes (record_place cells at + 2))
 
 -- the records that no chain has reached yet
 abbrev pub unseen : List Bool → ℕ
@@ -45,21 +50,20 @@ after_these xs (Err e) = Err e
 
 module _ (s : Shape) (bytes : List ℕ) (records : ℕ) where
   -- the chain of the cell c from a link on, and what comes after it; it goes on at most as often as there are records unseen
-  abbrev pub chain : ℕ → ℕ → List Bool → ℕ → (List Bool → Result (List Contribution) Refusal) → Result (List Contribution) Refusal
-  chain zero c seen link rest =
-      cond (link == 0) (rest seen) (cond (nat_lt records link) (Err (LinkTooLarge c)) (Err (RecordReached c)))
-  chain (suc n) c seen link rest =
-      cond (link == 0) (rest seen)
-      (cond (nat_lt records link) (Err (LinkTooLarge c))
-      (cond (slice_index_or seen (link - 1) false) (Err (RecordReached c))
-      (cond (nat_lt 1000000000 (contribution s.cells bytes c link).amount) (Err (AmountTooLarge c))
-      (after_these (contribution s.cells bytes c link ∷ []) (chain n c (slice_set seen (link - 1) true) (next s.cells bytes link) rest)))))
+  abbrev pub chain : ℕ → ℕ → List Bool → Option ℕ → (List Bool → Result (List Contribution) Refusal) → Result (List Contribution) Refusal
+  chain n c seen None rest = rest seen
+  chain zero c seen (Some at) rest = cond (nat_le records at) (Err (LinkTooLarge c)) (Err (RecordReached c))
+  chain (suc n) c seen (Some at) rest =
+      cond (nat_le records at) (Err (LinkTooLarge c))
+      (cond (slice_index_or seen at false) (Err (RecordReached c))
+      (cond (nat_lt 1000000000 (contribution s.cells bytes c at).amount) (Err (AmountTooLarge c))
+      (after_these (contribution s.cells bytes c at ∷ []) (chain n c (slice_set seen at true) (next s.cells bytes at) rest))))
 
   -- the chains of k cells from c on; at the end no record may be unseen
   abbrev pub walk : ℕ → ℕ → List Bool → Result (List Contribution) Refusal
   walk zero c seen = cond (nat_lt 0 (unseen seen)) (Err RecordUnreached) (Ok [])
   walk (suc k) c seen =
-      cond (not (head bytes c == 0) && not (s.leaf c)) (Err (NotALeaf c))
+      cond (is_some (head bytes c) && not (s.leaf c)) (Err (NotALeaf c))
       (chain (unseen seen) c seen (head bytes c) (walk k (suc c)))
 
 -- the length is that of the counts

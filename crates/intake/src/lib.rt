@@ -1,6 +1,7 @@
 // From contributions to the figures and needs of a table.
 #![tactic(auto)]
 
+mod chains;
 mod deposit;
 pub mod entering;
 pub mod held;

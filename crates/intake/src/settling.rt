@@ -1,36 +1,16 @@
 // Settling: the figure and the need of each cell, from the chains of the leaves that count under it.
-ghost use Rattle.std.specs.Prelude.{◌≡◌, ℕ, ◌+◌, ◌*◌, ◌<◌, ◌≤◌, List, ◌++◌, length, vec_len, sum};
+ghost use Rattle.std.specs.Prelude.{◌≡◌, ℕ, ◌<◌, List, length, vec_len};
 ghost use Rattle.layouts.specs.Admission.{shape_of};
 ghost use Rattle.intake.specs.Chains.{held};
 ghost use Rattle.intake.specs.Marks.{first_mark};
-ghost use Rattle.intake.specs.Settling.{Chained, chain_of, settled_row, settled_rows};
+ghost use Rattle.intake.specs.Settling.{settled_row, settled_rows};
 
+use crate::chains::Chains;
 use crate::held::Intake;
 use crate::settled::Settled;
-use layouts::memory::{Mark, Memory, Record, Row};
+use layouts::memory::{Mark, Row};
 use layouts::network::Network;
 use rules::Rule;
-
-// Tells the rule the amounts of a leaf, the latest first, and answers their sum.
-fn tell_chain<R: Rule>(rule: &mut R, records: &[Record], heads: &[usize], leaf: usize) -> u64
-    requires chained { Chained records.now heads.now }
-    requires inside { leaf < length heads.now }
-    ensures sum { result ≡ sum (chain_of records.now leaf) }
-    ensures bound { result ≤ 2048000000000 }
-    ensures told { (xs : List ℕ) → R.stands rule.old xs → length xs + length (chain_of records.now leaf) ≤ 2048 → R.stands rule.new (xs ++ chain_of records.now leaf) }
-    ensures same { (xs : List ℕ) → R.meaning rule.new xs ≡ R.meaning rule.old xs }
-{
-    let mut sum = 0;
-    let mut link = heads[leaf];
-    while link != 0 {
-        let record = records[link - 1];
-        let amount = record.contribution.amount;
-        let _ = rule.tell(amount);
-        sum += amount;
-        link = record.next;
-    }
-    sum
-}
 
 // A cell with a need is sensitive, and any other is open.
 fn mark_of(need: u64) -> Mark
@@ -44,25 +24,17 @@ fn mark_of(need: u64) -> Mark
 }
 
 // The row of a cell: its figure and its need over the amounts entered under it.
-fn settle_cell<R: Rule>(
-    rule: &mut R,
-    network: &Network,
-    records: &[Record],
-    heads: &[usize],
-    cell: usize,
-) -> Row
-    requires chained { Chained records.now heads.now }
-    requires wide { length heads.now ≡ vec_len network.now.leaves }
-    requires inside { cell < length heads.now }
-    ensures row { result ≡ settled_row (shape_of network.now) (R.meaning rule.old) (held records.now) cell }
+fn settle_cell<R: Rule>(rule: &mut R, network: &Network, chains: &Chains, cell: usize) -> Row
+    requires wide { vec_len chains.now.heads ≡ vec_len network.now.edges }
+    requires inside { cell < vec_len network.now.edges }
+    ensures row { result ≡ settled_row (shape_of network.now) (R.meaning rule.old) (held chains.now.records.items) cell }
     ensures same { (xs : List ℕ) → R.meaning rule.new xs ≡ R.meaning rule.old xs }
 {
     rule.begin();
-    let cells = heads.len();
     let mut figure = 0;
-    for leaf in 0..cells {
-        if network.under[leaf * cells + cell] {
-            figure += tell_chain(rule, records, heads, leaf);
+    for (leaf, edge) in network.edges.iter().enumerate() {
+        if edge.under[cell] {
+            figure += chains.tell_chain(rule, leaf);
         }
     }
     let need = rule.need();
@@ -71,19 +43,12 @@ fn settle_cell<R: Rule>(
 }
 
 // The rows of all cells.
-fn settle_rows<R: Rule>(
-    rule: &mut R,
-    network: &Network,
-    records: &[Record],
-    heads: &[usize],
-    rows: &mut [Row],
-)
-    requires chained { Chained records.now heads.now }
-    requires wide { (length heads.now ≡ vec_len network.now.leaves) × (length rows.old ≡ length heads.now) }
-    ensures { rows.new ≡ settled_rows (shape_of network.now) (R.meaning rule.old) (held records.now) }
+fn settle_rows<R: Rule>(rule: &mut R, network: &Network, chains: &Chains, rows: &mut [Row])
+    requires { (vec_len chains.now.heads ≡ vec_len network.now.edges) × (length rows.old ≡ vec_len network.now.edges) }
+    ensures { rows.new ≡ settled_rows (shape_of network.now) (R.meaning rule.old) (held chains.now.records.items) }
 {
-    for cell in 0..heads.len() {
-        rows[cell] = settle_cell(rule, network, records, heads, cell);
+    for (cell, row) in rows.iter_mut().enumerate() {
+        *row = settle_cell(rule, network, chains, cell);
     }
 }
 
@@ -91,32 +56,22 @@ impl<R: Rule + Drop> Intake<R> {
     // Uses the intake up, and gives each cell its figure and its need.
     pub fn settle(self) -> Settled
         ensures network { result.network ≡ self.network }
-        ensures rows { result.rows.items ≡ settled_rows (shape_of self.network) (R.meaning self.rule) (held self.memory.records.items) }
+        ensures rows { result.rows.items ≡ settled_rows (shape_of self.network) (R.meaning self.rule) (held self.chains.records.items) }
     {
         let Intake {
             mut rule,
             network,
-            memory,
-        } = self;
-        let Memory {
-            records,
-            heads,
+            chains,
             pending: _,
             seen: _,
             mut rows,
-            marks,
-            table,
-            layer,
-            via,
-        } = memory;
-        settle_rows(&mut rule, &network, &records, &heads, &mut rows);
+            bench,
+        } = self;
+        settle_rows(&mut rule, &network, &chains, &mut rows);
         Settled {
             network,
             rows,
-            marks,
-            table,
-            layer,
-            via,
+            bench,
         }
     }
 }

@@ -25,11 +25,7 @@ abbrev pub ToldOf : ChosenRule → List ℕ → Type 0
 ToldOf (P p) xs = Told p.told xs
 ToldOf (Nk r) xs = Told r.told xs
 
--- what a settings line asks for, and whether it is within its range
-abbrev pub shape_asked : LayoutSetting → Shape
-shape_asked (grid_of r c) = grid r c
-shape_asked (list_of n) = listed n
-
+-- what else a settings line asks for, and whether it is within its range
 abbrev pub layout_range : LayoutSetting → Bool
 layout_range (grid_of r c) = grid_size r c
 layout_range (list_of n) = list_size n

@@ -7,6 +7,7 @@ use Rattle.layouts.specs.Shape.{Shape}
 use Rattle.layouts.specs.Admission.{admissible}
 use Rattle.layouts.specs.declared.memory.Contribution.{Contribution}
 use Rattle.readings.specs.Exposure.{Figures}
+use Rattle.settings.specs.Asked.{shape_asked}
 use Rattle.settings.specs.Line.{settings_text, ShortSettings}
 use Rattle.settings.specs.Reading.{Opens, Never}
 use Rattle.settings.specs.declared.choices.Settings.{Settings}
@@ -14,8 +15,8 @@ use Rattle.intake.specs.Deposit.{deposited}
 use Rattle.runs.specs.Acts.{fresh, page_of, searched}
 use Rattle.office.specs.Office.{figures_by}
 use Rattle.office.specs.declared.acts.Answer.{Answer}
-use Rattle.office.specs.declared.acts.Answer.TheVariants as answers
-use Rattle.job.specs.Chosen.{shape_asked, layout_range, meaning_asked, rule_range}
+use Rattle.office.specs.declared.acts.Answer.TheVariants.{Count, Page, Table}
+use Rattle.job.specs.Chosen.{layout_range, meaning_asked, rule_range}
 
 -- why a job is refused for its size, if it is
 abbrev pub too_large : Shape → ℕ → Option Refusal
@@ -42,22 +43,23 @@ pub record Printed (input page : List ℕ) : Type 0 where
   pub deposit : deposited (shape_asked settings.layout) 0 rest ≡ Ok contributions
   pub bytes : page ≡ page_of (figures_asked settings contributions) (searched (figures_asked settings contributions) fresh)
 
--- the input is refused with e: for its line, for a range, or for its deposit; or there is not memory enough
+-- The input is refused with e: for its line, for a range, or for its deposit; or its line is within all ranges, and there is not memory enough.
 pub data Refused (input : List ℕ) (e : Refusal) : Type 0 where
   for_line : Never ShortSettings settings_text input → e ≡ SettingsForm → Refused input e
   for_range : (s : Settings) (rest : List ℕ) → Opens ShortSettings settings_text input s rest → early s (length input) ≡ Some e → Refused input e
   for_deposit : (s : Settings) (rest : List ℕ) → Opens ShortSettings settings_text input s rest → early s (length input) ≡ None
       → deposited (shape_asked s.layout) 0 rest ≡ Err e → Refused input e
-  for_memory : e ≡ OutOfMemory → Refused input e
+  for_memory : (s : Settings) (rest : List ℕ) → Opens ShortSettings settings_text input s rest → early s (length input) ≡ None → e ≡ OutOfMemory → Refused input e
 
 -- what a check for such a reason answers
 abbrev pub unless_refused : Option Refusal → Result (Unit {0}) Refusal
 unless_refused None = Ok tt
 unless_refused (Some e) = Err e
 
--- the page in an answer; by the law no other answer follows a search, and OutOfMemory stands for one that does
-abbrev pub page_in : Answer → Result (Vec ℕ Global) Refusal
-page_in (answers.Refused r) = Err OutOfMemory
-page_in (answers.Count n) = Err OutOfMemory
-page_in (answers.Page page) = Ok page
-page_in (answers.Table figures) = Err OutOfMemory
+-- the page in an answer, if one is there and is a page
+abbrev pub page_in : Option (Result Answer Refusal) → Option (Vec ℕ Global)
+page_in None = None
+page_in (Some (Err r)) = None
+page_in (Some (Ok (Count n))) = None
+page_in (Some (Ok (Page page))) = Some page
+page_in (Some (Ok (Table figures))) = None

@@ -1,7 +1,8 @@
 // Making the layout and the rule that a settings line names.
 ghost use Rattle.std.specs.Prelude.{◌≡◌, ℕ, true, false, List, MatchResult};
 ghost use Rattle.refusals.specs.declared.Refusal.TheVariants.{LayoutSize, RuleRange};
-ghost use Rattle.job.specs.Chosen.{layout_range, meaning_asked, meaning_of, rule_range, shape_asked, shape_of};
+ghost use Rattle.settings.specs.Asked.{shape_asked};
+ghost use Rattle.job.specs.Chosen.{layout_range, meaning_asked, meaning_of, rule_range, shape_of};
 
 use crate::chosen_layout::ChosenLayout;
 use crate::chosen_rule::ChosenRule;

@@ -30,30 +30,16 @@ impl Rule for ChosenRule {
     ] };
 
     fn begin(&mut self) {
-        match *self {
-            ChosenRule::P(mut rule) => {
-                rule.begin();
-                *self = ChosenRule::P(rule);
-            }
-            ChosenRule::Nk(mut rule) => {
-                rule.begin();
-                *self = ChosenRule::Nk(rule);
-            }
+        match self {
+            ChosenRule::P(rule) => rule.begin(),
+            ChosenRule::Nk(rule) => rule.begin(),
         }
     }
 
     fn tell(&mut self, amount: u64) -> Result<(), Refusal> {
-        match *self {
-            ChosenRule::P(mut rule) => {
-                let answer = rule.tell(amount);
-                *self = ChosenRule::P(rule);
-                answer
-            }
-            ChosenRule::Nk(mut rule) => {
-                let answer = rule.tell(amount);
-                *self = ChosenRule::Nk(rule);
-                answer
-            }
+        match self {
+            ChosenRule::P(rule) => rule.tell(amount),
+            ChosenRule::Nk(rule) => rule.tell(amount),
         }
     }
 

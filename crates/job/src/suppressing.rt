@@ -1,12 +1,13 @@
 // From the input to the page.
-ghost use Rattle.std.specs.Prelude.{◌≡◌, MatchResult};
+ghost use Rattle.std.specs.Prelude.{◌≡◌, IsSome, MatchResult};
 ghost use Rattle.job.specs.Chosen.{shape_of};
 ghost use Rattle.job.specs.Job.{Printed, Refused, page_in, too_large, unless_refused};
 
 use crate::choosing::{make_layout, make_rule};
 use crate::chosen_layout::ChosenLayout;
 use layouts::Layout;
-use office::acts::{Act, Answer};
+use layouts::admission::{MOST_CELLS, MOST_RELATIONS};
+use office::acts::{Act, Answer, LONGEST_PAGE};
 use office::running::run_deposit;
 use refusals::Refusal;
 use settings::read_settings;
@@ -14,13 +15,10 @@ use std::alloc::Global;
 
 pub const LONGEST_INPUT: usize = 40_000;
 
-// 19 bytes for each of 512 cells
-const LONGEST_PAGE: usize = 9_728;
-
 fn check_size(layout: &ChosenLayout, size: usize) -> Result<(), Refusal>
     ensures { result ≡ unless_refused (too_large (shape_of layout.now) size) }
 {
-    if layout.cells() > 512 || layout.relations() > 128 {
+    if layout.cells() > MOST_CELLS || layout.relations() > MOST_RELATIONS {
         return Err(Refusal::LayoutTooLarge);
     }
     if size > LONGEST_INPUT {
@@ -29,13 +27,14 @@ fn check_size(layout: &ChosenLayout, size: usize) -> Result<(), Refusal>
     Ok(())
 }
 
-// The page in an answer. By the law no other answer follows a search; the refusal stands for one that does.
-fn page_of(answer: Answer) -> Result<Vec<u8>, Refusal>
-    ensures { result ≡ page_in answer }
+// The page in the last answer to a search and a print, which by the law is not refused.
+fn page_of(last: Option<Result<Answer, Refusal>>) -> Vec<u8>
+    requires { IsSome (page_in last) }
+    ensures { page_in last ≡ Some result }
 {
-    match answer {
-        Answer::Page(page) => Ok(page),
-        _ => Err(Refusal::OutOfMemory),
+    match last {
+        Some(Ok(Answer::Page(page))) => page,
+        _ => unreachable!(),
     }
 }
 
@@ -54,8 +53,5 @@ pub fn suppress(heap: Global, input: &[u8]) -> Result<Vec<u8>, Refusal>
         },
     ];
     let mut answers = run_deposit(heap, &layout, rule, deposit, &acts)?;
-    match answers.pop() {
-        Some(answer) => page_of(answer),
-        None => Err(Refusal::OutOfMemory),
-    }
+    Ok(page_of(answers.pop()))
 }

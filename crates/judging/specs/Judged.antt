@@ -5,8 +5,8 @@ use Rattle.refusals.specs.declared.Refusal.TheVariants.{RuleRange}
 use Rattle.rules.specs.Largest.{nth_largest, n_largest}
 use Rattle.rules.specs.Needs.{p_need, p_range, nk_need, nk_range, remainder}
 use Rattle.rules.specs.Telling.{and_then, told_all}
-use Rattle.judging.specs.declared.Asked.{Asked}
-use Rattle.judging.specs.declared.Asked.TheVariants.{P as ask_p, Nk as ask_nk}
+use Rattle.settings.specs.declared.choices.RuleSetting.{RuleSetting}
+use Rattle.settings.specs.declared.choices.RuleSetting.TheVariants.{P as ask_p, Nk as ask_nk}
 use Rattle.judging.specs.declared.Judgement.{Judgement}
 use Rattle.judging.specs.declared.Judgement.TheVariants.{P, Nk}
 
@@ -14,7 +14,7 @@ abbrev pub within : Bool → Result (Unit {0}) Refusal
 within b = cond b (Ok tt) (Err RuleRange)
 
 -- a rule outside its range is refused first, then the first amount that cannot be told
-abbrev pub judged : Asked → List ℕ → Result Judgement Refusal
+abbrev pub judged : RuleSetting → List ℕ → Result Judgement Refusal
 judged (ask_p p) xs = and_then (within (p_range p)) (and_then (told_all 0 xs)
     (Ok (P p (length xs) (sum xs) (nth_largest 0 xs) (nth_largest 1 xs) (remainder xs) (p_need p xs))))
 judged (ask_nk n k) xs = and_then (within (nk_range n k)) (and_then (told_all 0 xs)

@@ -5,20 +5,14 @@ ghost use Rattle.std.specs.Prelude.{◌≡◌, Some};
 ghost use Rattle.std.specs.Fmt.{WritesOnOk};
 ghost use Rattle.judging.specs.Judged.{judged};
 ghost use Rattle.judging.specs.Told.{told, verdict_text};
-ghost use Rattle.judging.specs.declared.Asked.TheVariants.{P as ask_p, Nk as ask_nk};
+ghost use Rattle.settings.specs.declared.choices.RuleSetting.TheVariants.{P as ask_p, Nk as ask_nk};
 
 use refusals::Refusal;
 use rules::need_of;
 use rules::nk::NK;
 use rules::p_percent::PPercent;
+use settings::RuleSetting;
 use std::fmt;
-
-// The rule that was asked for, in or out of its range.
-#[derive(Clone, Copy)]
-pub enum Asked {
-    P { percent: u64 },
-    Nk { n: u64, k: u64 },
-}
 
 // The figures that the rule goes by, over the amounts told.
 #[derive(Clone, Copy)]
@@ -42,15 +36,17 @@ pub enum Judgement {
     },
 }
 
-pub fn judge(asked: Asked, amounts: &[u64]) -> Result<Judgement, Refusal>
+// The rule is the one that was asked for, in or out of its range.
+pub fn judge(asked: RuleSetting, amounts: &[u64]) -> Result<Judgement, Refusal>
     ensures { result ≡ judged asked amounts.now }
 {
     match asked {
-        Asked::P { percent } => judge_p(percent, amounts),
-        Asked::Nk { n, k } => judge_nk(n, k, amounts),
+        RuleSetting::P { percent } => judge_p(percent, amounts),
+        RuleSetting::Nk { n, k } => judge_nk(n, k, amounts),
     }
 }
 
+#[tactic(auto, using(crate::proofs::Judging::accepted_all))]
 fn judge_p(percent: u64, amounts: &[u64]) -> Result<Judgement, Refusal>
     ensures { result ≡ judged (ask_p percent) amounts.now }
 {

@@ -1,12 +1,13 @@
 -- Layouts that give the same answers obey the same laws; lists of a layout's answers are such a copy of it; and so a network obeys the laws.
-use Rattle.std.proofs.Common.{◌≡◌, ℕ, ◌+◌, ◌*◌, ◌<◌, Bool, true, false, not, ◌&&◌, eqb, ltb, List, length, get_or, vec_len, sym, refl, ap, ◌∙◌, arith}
+use Rattle.std.proofs.Common.{◌≡◌, ℕ, ◌<◌, true, false, not, ◌&&◌, eqb, ltb, List, [], length, get_or, vec_len, sym, refl, ap, ◌∙◌, arith}
 use Rattle.std.proofs.lemmas.Bool.{and_parts, and_from, ltb-true, lt-ltb}
-use Rattle.std.proofs.lemmas.Nat.{mul-add-lt, div-mul-add, mod-mul-add}
+use Rattle.std.proofs.lemmas.List.{length-map}
 use Rattle.sums.specs.Sums.{count_below}
 use Rattle.sums.proofs.SumBelow.{count_same}
 use Rattle.layouts.specs.Shape.{Shape, Laws, Same, is_leaf}
-use Rattle.layouts.specs.Copied.{copied, values, marks_of_all}
-use Rattle.layouts.specs.Admission.{shape_of}
+use Rattle.layouts.specs.Copied.{copied, marks_of, under_at, values}
+use Rattle.layouts.specs.Admission.{EdgesOf, shape_of}
+use Rattle.layouts.specs.declared.network.Edge.{Edge}
 use Rattle.layouts.specs.declared.network.Network.{Network}
 use Rattle.layouts.proofs.Values.{length_values, get_or_values}
 
@@ -54,32 +55,29 @@ module _ (s t : Shape) (same : Same s t) where
         ∙ sym (same_count t.enters s.enters same.enters l r e);
   }
 
-module _ (s : Shape) (relations : ℕ) (leaves enters : List ℕ) (leaf under : List Bool) (rs : relations ≡ s.relations)
-    (ls : leaves ≡ values s.cells s.leaves) (es : enters ≡ values s.cells s.enters) (fs : leaf ≡ values s.cells s.leaf)
-    (us : under ≡ values (s.cells * s.cells) (marks_of_all s)) where
-  long : length leaves ≡ s.cells
-  long = ap length ls ∙ length_values s.cells s.leaves
+module _ (s : Shape) (relations : ℕ) (edges : List Edge) (rs : relations ≡ s.relations) (of : EdgesOf s s.cells edges) where
+  pub edges_length : length edges ≡ s.cells
+  edges_length = sym (length-map edges (λ (e : Edge). e.leaves)) ∙ ap length of.leaves ∙ length_values s.cells s.leaves
 
-  copied_counts : (c l : ℕ) → c < s.cells → l < s.cells → s.leaf l ≡ true → get_or under (l * length leaves + c) false ≡ s.counts c l
+  pub edges_under : (l : ℕ) → l < s.cells → under_at edges l ≡ values s.cells (marks_of s l)
+  edges_under l h = ap (λ xs. get_or xs l []) of.under ∙ get_or_values s.cells (λ k. values s.cells (marks_of s k)) l [] h
+
+  copied_counts : (c l : ℕ) → c < s.cells → l < s.cells → s.leaf l ≡ true → get_or (under_at edges l) c false ≡ s.counts c l
   copied_counts c l hc hl e =
-      let n = s.cells in
-      ap (λ m. get_or under (l * m + c) false) long
-      ∙ ap (λ us. get_or us (l * n + c) false) us
-      ∙ get_or_values (n * n) (marks_of_all s) (l * n + c) false (mul-add-lt l n c n hl hc)
-      ∙ rw (div-mul-add l n c hc, mod-mul-add l n c hc, lt-ltb l n hl, e) refl
+      ap (λ xs. get_or xs c false) (edges_under l hl) ∙ get_or_values s.cells (marks_of s l) c false hc ∙ rw (lt-ltb l s.cells hl, e) refl
 
-  pub copied_same : Same s (copied relations leaves enters leaf under)
+  pub copied_same : Same s (copied relations edges)
   copied_same = record {
-    cells = long;
+    cells = edges_length;
     relations = rs;
-    leaf = λ c h. ap (λ xs. get_or xs c false) fs ∙ get_or_values s.cells s.leaf c false h;
-    leaves = λ c h. ap (λ xs. get_or xs c 0) ls ∙ get_or_values s.cells s.leaves c 0 h;
-    enters = λ c h. ap (λ xs. get_or xs c 0) es ∙ get_or_values s.cells s.enters c 0 h;
+    leaf = λ c h. ap (λ xs. get_or xs c false) of.leaf ∙ get_or_values s.cells s.leaf c false h;
+    leaves = λ c h. ap (λ xs. get_or xs c 0) of.leaves ∙ get_or_values s.cells s.leaves c 0 h;
+    enters = λ c h. ap (λ xs. get_or xs c 0) of.enters ∙ get_or_values s.cells s.enters c 0 h;
     counts = copied_counts;
   }
 
-pub network_cells : (n : Network) → (shape_of n).cells ≡ vec_len n.leaves
-network_cells n = sym n.leaves.ok.0
+pub network_cells : (n : Network) → (shape_of n).cells ≡ vec_len n.edges
+network_cells n = sym n.edges.ok.0
 
 pub network_laws : (n : Network) → Laws (shape_of n)
 network_laws n = record {

@@ -2,4 +2,3 @@
 pub mod Answered
 pub mod Values
 pub mod Kept
-pub mod Fresh

@@ -1,26 +1,32 @@
 // Admission: a layout within the limits is asked for its answers, and all memory that it will ever need is got with them.
-ghost use Rattle.std.specs.Prelude.{◌≡◌, true, replicate, IfOk, MatchResult};
+ghost use Rattle.std.specs.Prelude.{◌≡◌, true, MatchResult};
 ghost use Rattle.refusals.specs.declared.Refusal.TheVariants.{OutOfMemory};
 ghost use Rattle.layouts.specs.Admission.{admissible, layout_refusal, shape_of};
-ghost use Rattle.layouts.specs.Blank.{Fresh};
+ghost use Rattle.layouts.specs.Blank.{Clear, Fresh};
 ghost use Rattle.layouts.specs.Shape.{Same};
 
 use crate::Layout;
 use crate::admitted::Admitted;
-use crate::copying::{Arcs, copy_arcs, copy_under};
-use crate::memory::{Mark, Memory, Row};
+use crate::copying::copy_edges;
+use crate::memory::{Bench, Cover, Mark, Memory, Row};
 use crate::network::Network;
 use refusals::Refusal;
-use std::alloc::{AllocError, Global};
+use std::alloc::Global;
 
-const RECORDS: usize = 2048;
+pub const MOST_CELLS: usize = 512;
 
-fn filled<T: Copy>(heap: Global, n: usize, x: T) -> Result<Vec<T>, AllocError>
-    ensures { IfOk result (λ v. v.items ≡ replicate n x) }
+pub const MOST_RELATIONS: usize = 128;
+
+const RECORDS: usize = 2_048;
+
+fn get_bench(heap: Global, cells: usize, relations: usize) -> Result<Bench, Refusal>
+    ensures { MatchResult result (λ b. Clear cells relations b) (λ e. e ≡ OutOfMemory) }
 {
-    let mut v = Vec::new(heap);
-    v.resize(n, x)?;
-    Ok(v)
+    Ok(Bench {
+        covers: vec![in heap; Cover::Shown; cells]?,
+        table: vec![in heap; 0; cells]?,
+        reached: vec![in heap; None; relations]?,
+    })
 }
 
 fn get_memory(heap: Global, cells: usize, relations: usize) -> Result<Memory, Refusal>
@@ -33,14 +39,11 @@ fn get_memory(heap: Global, cells: usize, relations: usize) -> Result<Memory, Re
     };
     Ok(Memory {
         records: Vec::with_capacity(heap, RECORDS)?,
-        heads: filled(heap, cells, 0)?,
+        heads: vec![in heap; None; cells]?,
         pending: Vec::with_capacity(heap, RECORDS)?,
-        seen: filled(heap, RECORDS, false)?,
-        rows: filled(heap, cells, blank)?,
-        marks: filled(heap, cells, 0)?,
-        table: filled(heap, cells, 0)?,
-        layer: filled(heap, relations, 0)?,
-        via: filled(heap, relations, 0)?,
+        seen: vec![in heap; false; RECORDS]?,
+        rows: vec![in heap; blank; cells]?,
+        bench: get_bench(heap, cells, relations)?,
     })
 }
 
@@ -48,19 +51,9 @@ fn copy_network<L: Layout>(heap: Global, layout: &L) -> Result<Network, Refusal>
     requires { admissible (L.shape layout.now) ≡ true }
     ensures { MatchResult result (λ n. Same (L.shape layout.now) (shape_of n)) (λ e. e ≡ OutOfMemory) }
 {
-    let relations = layout.relations();
-    let Arcs {
-        leaves,
-        enters,
-        leaf,
-    } = copy_arcs(heap, layout)?;
-    let under = copy_under(heap, layout)?;
     Ok(Network {
-        relations,
-        leaves,
-        enters,
-        leaf,
-        under,
+        relations: layout.relations(),
+        edges: copy_edges(heap, layout)?,
     })
 }
 
@@ -69,7 +62,7 @@ pub fn admit<L: Layout>(heap: Global, layout: &L) -> Result<Admitted, Refusal>
 {
     let cells = layout.cells();
     let relations = layout.relations();
-    if cells > 512 || relations > 128 {
+    if cells > MOST_CELLS || relations > MOST_RELATIONS {
         return Err(Refusal::LayoutTooLarge);
     }
     let network = copy_network(heap, layout)?;

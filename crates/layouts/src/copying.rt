@@ -1,58 +1,43 @@
 // A layout is asked for each of its answers once.
-ghost use Rattle.std.specs.Prelude.{◌≡◌, ◌*◌, ◌++◌, MatchResult};
+ghost use Rattle.std.specs.Prelude.{◌≡◌, ◌<◌, MatchResult};
 ghost use Rattle.refusals.specs.declared.Refusal.TheVariants.{OutOfMemory};
-ghost use Rattle.layouts.specs.Admission.{ArcsOf};
-ghost use Rattle.layouts.specs.Copied.{marks_of, marks_of_all, values};
+ghost use Rattle.layouts.specs.Admission.{EdgeOf, EdgesOf};
+ghost use Rattle.layouts.specs.Copied.{marks_of, values};
 
+use crate::network::Edge;
 use crate::{Kind, Layout};
 use refusals::Refusal;
 use std::alloc::Global;
 
-// For each cell the relation that it leaves, the one that it enters, and whether it is a leaf.
-#[derive(Drop)]
-pub(crate) struct Arcs {
-    pub(crate) leaves: Vec<usize>,
-    pub(crate) enters: Vec<usize>,
-    pub(crate) leaf: Vec<bool>,
+// Under which cells a leaf counts, a mark for each cell; a total counts under none.
+fn copy_marks<L: Layout>(heap: Global, layout: &L, leaf: usize) -> Result<Vec<bool>, Refusal>
+    ensures { MatchResult result (λ v. v.items ≡ values (L.shape layout.now).cells (marks_of (L.shape layout.now) leaf)) (λ e. e ≡ OutOfMemory) }
+{
+    let mut under = Vec::new(heap);
+    for cell in 0..layout.cells() {
+        under.push(layout.counts(cell, leaf).unwrap_or(false))?;
+    }
+    Ok(under)
 }
 
-pub(crate) fn copy_arcs<L: Layout>(heap: Global, layout: &L) -> Result<Arcs, Refusal>
-    ensures { MatchResult result (λ a. ArcsOf (L.shape layout.now) a) (λ e. e ≡ OutOfMemory) }
+fn copy_edge<L: Layout>(heap: Global, layout: &L, cell: usize) -> Result<Edge, Refusal>
+    requires { cell < (L.shape layout.now).cells }
+    ensures { MatchResult result (EdgeOf (L.shape layout.now) cell) (λ e. e ≡ OutOfMemory) }
 {
-    let mut leaves = Vec::new(heap);
-    let mut enters = Vec::new(heap);
-    let mut leaf = Vec::new(heap);
-    let cells = layout.cells();
-    for cell in 0..cells {
-        leaves.push(layout.leaves(cell).unwrap())?;
-        enters.push(layout.enters(cell).unwrap())?;
-        leaf.push(matches!(layout.kind(cell).unwrap(), Kind::Leaf))?;
-    }
-    Ok(Arcs {
-        leaves,
-        enters,
-        leaf,
+    Ok(Edge {
+        leaves: layout.leaves(cell).unwrap(),
+        enters: layout.enters(cell).unwrap(),
+        leaf: layout.kind(cell) == Some(Kind::Leaf),
+        under: copy_marks(heap, layout, cell)?,
     })
 }
 
-// Appends the marks of one cell: of a leaf, under which cells it counts.
-fn copy_marks<L: Layout>(layout: &L, leaf: usize, under: &mut Vec<bool>) -> Result<(), Refusal>
-    ensures { MatchResult result (λ _. under.new.items ≡ under.old.items ++ values (L.shape layout.now).cells (marks_of (L.shape layout.now) leaf)) (λ e. e ≡ OutOfMemory) }
+pub(crate) fn copy_edges<L: Layout>(heap: Global, layout: &L) -> Result<Vec<Edge>, Refusal>
+    ensures { MatchResult result (λ v. EdgesOf (L.shape layout.now) (L.shape layout.now).cells v.items) (λ e. e ≡ OutOfMemory) }
 {
-    let cells = layout.cells();
-    for cell in 0..cells {
-        under.push(layout.counts(cell, leaf).unwrap_or(false))?;
+    let mut edges = Vec::new(heap);
+    for cell in 0..layout.cells() {
+        edges.push(copy_edge(heap, layout, cell)?)?;
     }
-    Ok(())
-}
-
-pub(crate) fn copy_under<L: Layout>(heap: Global, layout: &L) -> Result<Vec<bool>, Refusal>
-    ensures { MatchResult result (λ v. v.items ≡ values ((L.shape layout.now).cells * (L.shape layout.now).cells) (marks_of_all (L.shape layout.now))) (λ e. e ≡ OutOfMemory) }
-{
-    let mut under = Vec::new(heap);
-    let cells = layout.cells();
-    for leaf in 0..cells {
-        copy_marks(layout, leaf, &mut under)?;
-    }
-    Ok(under)
+    Ok(edges)
 }

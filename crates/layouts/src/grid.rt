@@ -29,7 +29,7 @@ impl Grid {
     pub fn new(rows: usize, columns: usize) -> Result<Grid, Refusal>
         ensures { MatchResult result (λ g. (g.rows ≡ rows) × (g.columns ≡ columns) × (grid_size rows columns ≡ true)) (λ e. (e ≡ LayoutSize) × (grid_size rows columns ≡ false)) }
     {
-        if rows < 1 || 31 < rows || columns < 1 || 31 < columns {
+        if !(1..=31).contains(&rows) || !(1..=31).contains(&columns) {
             return Err(Refusal::LayoutSize);
         }
         Ok(Grid { rows, columns })
@@ -92,13 +92,11 @@ impl Layout for Grid {
     }
 
     fn counts(&self, cell: usize, leaf: usize) -> Option<bool> {
-        let width = self.columns + 1;
-        if cell >= (self.rows + 1) * width {
-            return None;
-        }
+        let _ = self.place(cell)?;
         let Place::Inside(row, column) = self.place(leaf)? else {
             return None;
         };
+        let width = self.columns + 1;
         let foot = self.rows * width;
         let above = [
             leaf,

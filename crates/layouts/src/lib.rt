@@ -13,7 +13,7 @@ pub mod listing;
 pub mod memory;
 pub mod network;
 
-#[derive(Clone, Copy)]
+#[derive(Clone, Copy, Debug, PartialEq, Eq)]
 pub enum Kind {
     Leaf,
     Total,

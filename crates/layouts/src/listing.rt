@@ -1,6 +1,7 @@
 // A list of leaves and their total.
-ghost use Rattle.std.specs.Prelude.{◌≡◌, ◌≤◌, true, false, MatchResult};
+ghost use Rattle.std.specs.Prelude.{◌≡◌, ◌+◌, ◌≤◌, true, false, cond, nat_lt, MatchResult};
 ghost use Rattle.refusals.specs.declared.Refusal.TheVariants.{LayoutSize};
+ghost use Rattle.layouts.specs.Answers.{only};
 ghost use Rattle.layouts.specs.Layouts.{list_size, listed};
 ghost use Rattle.layouts.specs.Listed.{listed_laws};
 
@@ -18,10 +19,20 @@ impl Listing {
     pub fn new(count: usize) -> Result<Listing, Refusal>
         ensures { MatchResult result (λ l. (l.count ≡ count) × (list_size count ≡ true)) (λ e. (e ≡ LayoutSize) × (list_size count ≡ false)) }
     {
-        if count < 1 || 1023 < count {
+        if !(1..=1023).contains(&count) {
             return Err(Refusal::LayoutSize);
         }
         Ok(Listing { count })
+    }
+
+    // The first where the cell is a leaf, and the second where it is the total.
+    fn choose<T: Copy>(&self, cell: usize, leaf: T, total: T) -> Option<T>
+        ensures { result ≡ only (nat_lt cell (self.now.count + 1)) (cond (nat_lt cell self.now.count) leaf total) }
+    {
+        if cell > self.count {
+            return None;
+        }
+        Some(if cell < self.count { leaf } else { total })
     }
 }
 
@@ -39,28 +50,15 @@ impl Layout for Listing {
     }
 
     fn kind(&self, cell: usize) -> Option<Kind> {
-        if cell > self.count {
-            return None;
-        }
-        Some(if cell < self.count {
-            Kind::Leaf
-        } else {
-            Kind::Total
-        })
+        self.choose(cell, Kind::Leaf, Kind::Total)
     }
 
     fn leaves(&self, cell: usize) -> Option<usize> {
-        if cell > self.count {
-            return None;
-        }
-        Some(if cell < self.count { 0 } else { 1 })
+        self.choose(cell, 0, 1)
     }
 
     fn enters(&self, cell: usize) -> Option<usize> {
-        if cell > self.count {
-            return None;
-        }
-        Some(if cell < self.count { 1 } else { 0 })
+        self.choose(cell, 1, 0)
     }
 
     fn counts(&self, cell: usize, leaf: usize) -> Option<bool> {

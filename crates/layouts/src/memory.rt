@@ -1,22 +1,22 @@
 // All memory that an intake and its sheet ever need.
 
 // What a company sold under a leaf.
-#[derive(Clone, Copy)]
+#[derive(Clone, Copy, Debug, PartialEq, Eq)]
 pub struct Contribution {
     pub leaf: usize,
     pub company: u32,
     pub amount: u64,
 }
 
-// A contribution as it is kept, with the number of the record before it in the chain of its leaf, counted from 1, or 0.
+// A contribution as it is kept, with the place of the record before it in the chain of its leaf.
 #[derive(Clone, Copy)]
 pub struct Record {
     pub contribution: Contribution,
-    pub next: usize,
+    pub next: Option<usize>,
 }
 
 // How a cell stands: barred only while it is tried.
-#[derive(Clone, Copy)]
+#[derive(Clone, Copy, Debug, PartialEq, Eq)]
 pub enum Mark {
     Open,
     Sensitive,
@@ -32,17 +32,37 @@ pub struct Row {
     pub mark: Mark,
 }
 
-// The records, with the latest of each leaf's chain; what a loader has read and seen of a deposit; a row for each cell; and, to
-// try readings with, a mark and a figure for each cell, and for each relation the layer and the cell that it was reached by.
+// How a trial takes a cell: as shown, as withheld, or, while it is the one tried, as barred.
+#[derive(Clone, Copy, Debug, PartialEq, Eq)]
+pub enum Cover {
+    Shown,
+    Withheld,
+    Barred,
+}
+
+// How a search came to a relation: in which place of its order, and by which cell.
+#[derive(Clone, Copy)]
+pub struct Reach {
+    pub layer: usize,
+    pub via: usize,
+}
+
+// The memory to try readings with: for each cell its cover and a figure, and for each relation how it was reached, if it was.
+#[derive(Drop)]
+pub struct Bench {
+    pub covers: Vec<Cover>,
+    pub table: Vec<u64>,
+    pub reached: Vec<Option<Reach>>,
+}
+
+// The records, with the latest of each leaf's chain; what a loader has read and seen of a deposit; a row for each cell; and the
+// memory of trials.
 #[derive(Drop)]
 pub struct Memory {
     pub records: Vec<Record>,
-    pub heads: Vec<usize>,
+    pub heads: Vec<Option<usize>>,
     pub pending: Vec<Contribution>,
     pub seen: Vec<bool>,
     pub rows: Vec<Row>,
-    pub marks: Vec<u8>,
-    pub table: Vec<u64>,
-    pub layer: Vec<usize>,
-    pub via: Vec<usize>,
+    pub bench: Bench,
 }

@@ -1,24 +1,22 @@
 -- Figures that agree on the cells of layouts with the same answers have the same runs.
-use Rattle.std.proofs.Common.{◌≡◌, ℕ, zero, suc, ◌+◌, ◌*◌, ◌^◌, ◌<◌, ◌≤◌, Bool, false, cond, not, ◌&&◌, ◌||◌, eqb, ltb, leb, List, [], ◌∷◌, length, get_or, is_some, Some, None, Option, sym, refl, ap, ◌∙◌, subst, ⊎_elim, arith}
+use Rattle.std.proofs.Common.{◌≡◌, ℕ, zero, suc, ◌+◌, ◌*◌, ◌^◌, ◌<◌, ◌≤◌, Bool, false, cond, not, ◌&&◌, ◌||◌, eqb, ltb, leb, List, [], ◌∷◌, length, get_or, is_some, Some, None, Option, sym, refl, ap, ◌∙◌, subst, arith}
 use mathlib.Core.Path.{fun_ext}
-use Rattle.std.proofs.lemmas.Bool.{cases_lt, le-ltb, le-leb, cond-true, leb-false, cases_Bool, cond-false, and_left, or_from, ne_eqb}
+use Rattle.std.proofs.lemmas.Bool.Decides.{nat_tests}
 use Rattle.refusals.specs.declared.Side.{Side}
 use Rattle.refusals.specs.declared.Side.TheVariants.{Up, Down}
 use Rattle.refusals.specs.declared.Refusal.{Refusal}
-use Rattle.refusals.specs.declared.Refusal.TheVariants.{MemorySize, UnknownCell, AlreadyPrinted, NotSensitive, Exposed}
+use Rattle.refusals.specs.declared.Refusal.TheVariants.{MemorySize, UnknownCell, AlreadyPrinted}
 use Rattle.refusals.specs.Refusals.{side_of}
 use Rattle.sums.specs.Sums.{sum_below, count_below, among}
 use Rattle.sums.proofs.SumBelow.{sum_same, count_same}
 use Rattle.layouts.specs.Shape.{Shape, Same}
 use Rattle.page.specs.Page.{page as bytes}
 use Rattle.readings.specs.Balance.{Balanced, Sound}
+use Rattle.readings.specs.Readings.{Away}
 use Rattle.readings.specs.Exposure.{Figures, behind, ahead, besides, raised_out, lowered_out, any_below, any_set, is_wall, is_exposed, sensitive, is_told, exposure_at, or_else, first_from, audit}
-use Rattle.runs.specs.Acts.{Act, withhold, seek, print, witness, Answer, refused, count, page, table, Standing, opened, exposure, withheld, bare, shown, newly, closed, reopened, reopen, searched, bad_entry, refusal, accepted, step, complements, Away, Witnesses, unless, WitnessAnswer, Right}
+use Rattle.runs.specs.Acts.{Act, withhold, seek, print, witness, Answer, refused, count, page, table, Standing, opened, exposure, withheld, bare, shown, newly, closed, reopened, reopen, searched, bad_entry, refusal, accepted, step, complements, Witnesses, unless, WitnessAnswer, Right}
 use Rattle.runs.specs.Runs.{History, standing, Run}
 use Rattle.runs.specs.Pairs.{Settled}
-
-none_is_some : {A : Type 0} {x : A} → ◌≡◌ {A = Option A} None (Some x) → ⊥
-none_is_some e = let z : ◌≡◌ {A = ℕ} 0 1 = cc in omega arith
 
 -- ANY, FIRST, EVERY SET
 any_below_same : (n : ℕ) (p q : ℕ → Bool) → ((c : ℕ) → c < n → p c ≡ q c) → any_below n p ≡ any_below n q
@@ -98,21 +96,11 @@ module _ (F G : Figures) (like : Alike F G) where
   withheld_same : (st : Standing) (c : ℕ) → c < F.shape.cells → withheld G st c ≡ withheld F st c
   withheld_same st c l = λ i. ltb 0 (like.need c l i) || st.complement c
 
-  past : (c m : ℕ) (b : Bool) → m ≤ c → (ltb c m && b) ≡ false
-  past c m b l = ap (λ x. x && b) (le-ltb c m l)
-
   bare_same : (st : Standing) (c : ℕ) → bare G st c ≡ bare F st c
-  bare_same st c = ⊎_elim
-      (λ l i. ltb c (cells i) && not (withheld_same st c l i))
-      (λ l. past c G.shape.cells (not (withheld G st c)) (omega (arith, cells)) ∙ sym (past c F.shape.cells (not (withheld F st c)) l))
-      (cases_lt c F.shape.cells)
+  bare_same st c = grind (arith, nat_tests, withheld_same st c, cells)
 
   shown_same : (st : Standing) (c : ℕ) → shown G st c ≡ shown F st c
-  shown_same st c = ⊎_elim
-      (λ l i. cond (bare_same st c i) (Some (like.figure c l i)) None)
-      (λ l. cond-false (bare G st c) (Some (G.figure c)) None (past c G.shape.cells (not (withheld G st c)) (omega (arith, cells)))
-      ∙ sym (cond-false (bare F st c) (Some (F.figure c)) None (past c F.shape.cells (not (withheld F st c)) l)))
-      (cases_lt c F.shape.cells)
+  shown_same st c = grind (arith, nat_tests, bare_same st c, like.figure c)
 
   newly_same : (st : Standing) → newly G st ≡ newly F st
   newly_same st = fun_ext (λ c i. bare_same st c i && not (st.printed c))
@@ -143,28 +131,21 @@ module _ (F G : Figures) (like : Alike F G) where
   refusal_same st seek = refl
   refusal_same st (print memory) =
       λ i. cond (ltb memory (19 * cells i)) (Some MemorySize) (exposure (audit_same (withheld F st) (withheld G st) (withheld_same st) i))
-  refusal_same st (witness c side memory) = ⊎_elim
-      (λ l. let e = exposed_same F.shape G.shape like.shape (withheld F st) (withheld G st) (withheld_same st) F.figure G.figure like.figure (F.need c) (G.need c) (like.need c l) c l (side_of side) in
-      λ i. cond (leb (cells i) c) (Some (UnknownCell c))
-      (cond (not (ltb 0 (like.need c l i))) (Some (NotSensitive c))
-      (cond (ltb memory (cells i)) (Some MemorySize)
-      (cond (e i) (Some (Exposed c (side_of side))) None))))
-      (λ l. cond-true (leb G.shape.cells c) _ _ (le-leb G.shape.cells c (omega (arith, cells))) ∙ sym (cond-true (leb F.shape.cells c) _ _ (le-leb F.shape.cells c l)))
-      (cases_lt c F.shape.cells)
+  refusal_same st (witness c side memory) =
+      grind (
+        arith,
+        nat_tests,
+        cells,
+        like.need c,
+        λ (l : c < F.shape.cells).
+            exposed_same F.shape G.shape like.shape (withheld F st) (withheld G st) (withheld_same st) F.figure G.figure like.figure (F.need c) (G.need c) (like.need c l) c l (side_of side),
+      )
 
   -- WHAT AN ACCEPTED ACT LEAVES
   -- a list that can be withheld names cells only
   none_beyond : (st : Standing) (cs : List ℕ) → bad_entry F st cs ≡ None → (c : ℕ) → F.shape.cells ≤ c → among c cs ≡ false
   none_beyond st [] e c l = refl
-  none_beyond st (a ∷ cs) e c l = ⊎_elim
-      (λ b. absurd (none_is_some (sym e ∙ cond-true (leb F.shape.cells a) (Some (UnknownCell a)) _ b)))
-      (λ b. let f = sym (cond-false (leb F.shape.cells a) (Some (UnknownCell a)) _ b) ∙ e in
-      ⊎_elim
-      (λ p. absurd (none_is_some (sym f ∙ cond-true (st.printed a) (Some (AlreadyPrinted a)) _ p)))
-      (λ p. let g = sym (cond-false (st.printed a) (Some (AlreadyPrinted a)) _ p) ∙ f in
-      or_from (eqb c a) (among c cs) (ne_eqb c a (λ q. omega (arith, leb-false F.shape.cells a b))) (none_beyond st cs g c l))
-      (cases_Bool (st.printed a)))
-      (cases_Bool (leb F.shape.cells a))
+  none_beyond st (a ∷ cs) e c l = grind (arith, nat_tests, none_beyond st cs)
 
   listed_below : (cs : List ℕ) (c : ℕ) → c < F.shape.cells → (among c cs && not (sensitive G.need c)) ≡ (among c cs && not (sensitive F.need c))
   listed_below cs c l = λ i. among c cs && not (ltb 0 (like.need c l i))
@@ -173,16 +154,10 @@ module _ (F G : Figures) (like : Alike F G) where
   withhold_same st cs e = λ i. record { complement = fun_ext at i; printed = st.printed }
     where
       good : bad_entry F st cs ≡ None
-      good = ⊎_elim
-          (λ b. absurd (none_is_some (sym e ∙ cond-true (ltb 512 (length cs)) (Some MemorySize) _ b)))
-          (λ b. sym (cond-false (ltb 512 (length cs)) (Some MemorySize) _ b) ∙ e)
-          (cases_Bool (ltb 512 (length cs)))
+      good = grind (arith, nat_tests)
 
       at : (c : ℕ) → (among c cs && not (sensitive G.need c)) ≡ (among c cs && not (sensitive F.need c))
-      at c = ⊎_elim
-          (listed_below cs c)
-          (λ l. and_left (among c cs) _ (none_beyond st cs good c l) ∙ sym (and_left (among c cs) _ (none_beyond st cs good c l)))
-          (cases_lt c F.shape.cells)
+      at c = grind (arith, nat_tests, listed_below cs c, none_beyond st cs good c)
 
   -- an answer that is no refusal comes where nothing is to be refused
   granted : (o : Option Refusal) (x a : Answer) → a ≡ unless o x → ((r : Refusal) → a ≡ refused r → ⊥) → o ≡ None
@@ -197,14 +172,14 @@ module _ (F G : Figures) (like : Alike F G) where
 
   step_same : (st : Standing) (act : Act) (a : Answer) → Right F st act a → step G st act a ≡ step F st act a
   step_same st act (refused r) right = refl
-  step_same st act (count k) right = accepted_same st act (count k) (λ r e. let z : ◌≡◌ {A = ℕ} 0 1 = cc in omega arith) right
-  step_same st act (page p) right = accepted_same st act (page p) (λ r e. let z : ◌≡◌ {A = ℕ} 0 1 = cc in omega arith) right
-  step_same st act (table t) right = accepted_same st act (table t) (λ r e. let z : ◌≡◌ {A = ℕ} 0 1 = cc in omega arith) right
+  step_same st act (count k) right = accepted_same st act (count k) (λ r e. cc) right
+  step_same st act (page p) right = accepted_same st act (page p) (λ r e. cc) right
+  step_same st act (table t) right = accepted_same st act (table t) (λ r e. cc) right
 
   -- RIGHT ANSWERS
-  away_same : (side : Side) (c : ℕ) → c < F.shape.cells → (t : ℕ → ℕ) → Away G side c t → Away F side c t
-  away_same Up c l t far = omega (arith, like.figure c l, like.need c l)
-  away_same Down c l t far = omega (arith, like.figure c l, like.need c l)
+  away_same : (side : Side) (c : ℕ) → c < F.shape.cells → (n : ℕ) → Away side (G.need c) (G.figure c) n → Away side (F.need c) (F.figure c) n
+  away_same Up c l n far = omega (arith, like.figure c l, like.need c l)
+  away_same Down c l n far = omega (arith, like.figure c l, like.need c l)
 
   witnesses_same : (st : Standing) (c : ℕ) (side : Side) (ts : List ℕ) → c < F.shape.cells → Witnesses G st c side ts → Witnesses F st c side ts
   witnesses_same st c side ts l w = record {
@@ -213,15 +188,12 @@ module _ (F G : Figures) (like : Alike F G) where
       balanced = balanced_same F.shape G.shape like.shape (λ x. get_or ts x 0) (λ x. get_or ts x 0) (λ _ _. refl) w.reading.balanced;
       true_figures = λ x h e. w.reading.true_figures x (omega (arith, cells)) (withheld_same st x h ∙ e) ∙ like.figure x h;
     };
-    far = away_same side c l (λ x. get_or ts x 0) w.far;
+    far = away_same side c l (get_or ts c 0) w.far;
   }
 
   -- a witness that is not refused is asked for a cell
   witness_inside : (st : Standing) (c side memory : ℕ) → refusal F st (witness c side memory) ≡ None → c < F.shape.cells
-  witness_inside st c side memory e = ⊎_elim
-      (λ l. l)
-      (λ l. absurd (none_is_some (sym e ∙ cond-true (leb F.shape.cells c) (Some (UnknownCell c)) _ (le-leb F.shape.cells c l))))
-      (cases_lt c F.shape.cells)
+  witness_inside st c side memory e = grind (arith, nat_tests)
 
   right_same : (st : Standing) (act : Act) (a : Answer) → Right G st act a → Right F st act a
   right_same st (withhold cs) a right =

@@ -1,8 +1,8 @@
 -- A layout and its copy take in the same contributions, and these give the cells the same figures and needs.
-use Rattle.std.proofs.Common.{◌≡◌, ℕ, zero, suc, ◌+◌, ◌-◌, ◌<◌, ◌≤◌, Bool, true, false, cond, not, ◌&&◌, eqb, ltb, leb, List, [], ◌∷◌, ◌++◌, length, get_or, set, replicate, Ok, Err, sum, Result, sym, refl, ap, ◌∙◌, ⊎_elim, arith}
-use Rattle.std.proofs.lemmas.Bool.{cases_lt, le-leb, cond-true}
+use Rattle.std.proofs.Common.{◌≡◌, ℕ, zero, suc, ◌+◌, ◌<◌, ◌≤◌, Bool, true, false, cond, not, ◌&&◌, leb, ltb, Some, None, Option, is_some, List, [], ◌∷◌, ◌++◌, get_or, set, replicate, Err, sum, Result, refl, ap, ◌∙◌, arith}
+use Rattle.std.proofs.lemmas.Bool.Decides.{nat_tests}
 use Rattle.refusals.specs.declared.Refusal.{Refusal}
-use Rattle.refusals.specs.declared.Refusal.TheVariants.{UnknownCell, NotALeaf, AmountTooLarge, TooManyContributions, LinkTooLarge, RecordReached}
+use Rattle.refusals.specs.declared.Refusal.TheVariants.{NotALeaf, AmountTooLarge, LinkTooLarge, RecordReached}
 use Rattle.layouts.specs.Shape.{Shape, Laws, Same}
 use Rattle.layouts.specs.declared.memory.Contribution.{Contribution}
 use Rattle.layouts.specs.declared.memory.Row.{Row}
@@ -20,13 +20,7 @@ use Rattle.office.proofs.Alike.{Alike}
 module _ (s t : Shape) (same : Same s t) where
   -- ENTERING
   enter_same : (xs : List Contribution) (x : Contribution) → enter_answer t xs x ≡ enter_answer s xs x
-  enter_same xs x = ⊎_elim
-      (λ l i. cond (leb (same.cells i) x.leaf) (Err (UnknownCell x.leaf))
-      (cond (not (same.leaf x.leaf l i)) (Err (NotALeaf x.leaf))
-      (cond (ltb 1000000000 x.amount) (Err (AmountTooLarge x.leaf))
-      (cond (leb 2048 (length xs)) (Err TooManyContributions) (Ok (length xs + 1))))))
-      (λ l. cond-true (leb t.cells x.leaf) _ _ (le-leb t.cells x.leaf (omega (arith, same.cells))) ∙ sym (cond-true (leb s.cells x.leaf) _ _ (le-leb s.cells x.leaf l)))
-      (cases_lt x.leaf s.cells)
+  enter_same xs x = grind (arith, nat_tests, same.cells, same.leaf x.leaf)
 
   pub entered_same : (held xs : List Contribution) → entered_after t held xs ≡ entered_after s held xs
   entered_same held [] = refl
@@ -34,25 +28,25 @@ module _ (s t : Shape) (same : Same s t) where
 
   -- A DEPOSIT
   module _ (bytes : List ℕ) (q : ℕ) where
-    chain_same : (n c : ℕ) (seen : List Bool) (link : ℕ) (rest rest' : List Bool → Result (List Contribution) Refusal) → ((seen : List Bool) → rest' seen ≡ rest seen)
+    chain_same : (n c : ℕ) (seen : List Bool) (link : Option ℕ) (rest rest' : List Bool → Result (List Contribution) Refusal) → ((seen : List Bool) → rest' seen ≡ rest seen)
         → chain t bytes q n c seen link rest' ≡ chain s bytes q n c seen link rest
-    chain_same zero c seen link rest rest' e =
-        λ i. cond (eqb link 0) (e seen i) (cond (ltb q link) (Err (LinkTooLarge c)) (Err (RecordReached c)))
-    chain_same (suc n) c seen link rest rest' e =
-        let after : chain t bytes q n c (set seen (link - 1) true) (next t.cells bytes link) rest' ≡ chain s bytes q n c (set seen (link - 1) true) (next s.cells bytes link) rest =
-        chain_same n c (set seen (link - 1) true) (next t.cells bytes link) rest rest' e
-        ∙ ap (λ m. chain s bytes q n c (set seen (link - 1) true) (next m bytes link) rest) same.cells in
-        λ i. cond (eqb link 0) (e seen i)
-        (cond (ltb q link) (Err (LinkTooLarge c))
-        (cond (get_or seen (link - 1) false) (Err (RecordReached c))
-        (cond (ltb 1000000000 (contribution (same.cells i) bytes c link).amount) (Err (AmountTooLarge c))
-        (after_these (contribution (same.cells i) bytes c link ∷ []) (after i)))))
+    chain_same zero c seen None rest rest' e = e seen
+    chain_same (suc n) c seen None rest rest' e = e seen
+    chain_same zero c seen (Some at) rest rest' e = refl
+    chain_same (suc n) c seen (Some at) rest rest' e =
+        let after : chain t bytes q n c (set seen at true) (next t.cells bytes at) rest' ≡ chain s bytes q n c (set seen at true) (next s.cells bytes at) rest =
+        chain_same n c (set seen at true) (next t.cells bytes at) rest rest' e
+        ∙ ap (λ m. chain s bytes q n c (set seen at true) (next m bytes at) rest) same.cells in
+        λ i. cond (leb q at) (Err (LinkTooLarge c))
+        (cond (get_or seen at false) (Err (RecordReached c))
+        (cond (ltb 1000000000 (contribution (same.cells i) bytes c at).amount) (Err (AmountTooLarge c))
+        (after_these (contribution (same.cells i) bytes c at ∷ []) (after i))))
 
     walk_same : (k c : ℕ) (seen : List Bool) → c + k ≤ s.cells → walk t bytes q k c seen ≡ walk s bytes q k c seen
     walk_same zero c seen l = refl
     walk_same (suc k) c seen l =
         let chains = chain_same (unseen seen) c seen (head bytes c) (walk s bytes q k (suc c)) (walk t bytes q k (suc c)) (λ seen. walk_same k (suc c) seen (omega arith)) in
-        λ i. cond (not (eqb (head bytes c) 0) && not (same.leaf c (omega arith) i)) (Err (NotALeaf c)) (chains i)
+        λ i. cond (is_some (head bytes c) && not (same.leaf c (omega arith) i)) (Err (NotALeaf c)) (chains i)
 
   pub deposited_same : (held : ℕ) (bytes : List ℕ) → deposited t held bytes ≡ deposited s held bytes
   deposited_same held bytes =

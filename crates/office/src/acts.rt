@@ -1,7 +1,12 @@
-// The acts of an office and the answers to them, as a caller hands them over and gets them back.
-use refusals::Refusal;
+// The acts of an office and what each delivers, as a caller hands them over and gets it back.
+use layouts::admission::MOST_CELLS;
+use page::LINE;
 
-// Memory is counted in bytes for a print, and in figures for a witness. A witness asks for side 1, up, or for side 2, down.
+// The page of an admitted layout is no longer.
+pub const LONGEST_PAGE: usize = LINE * MOST_CELLS;
+
+// Memory is counted in bytes for a print, and in figures for a witness. A witness asks for side 1, up, or for side 2, down; the side
+// is a number as a caller may hand over any, and all but 1 count as down.
 #[derive(Drop)]
 pub enum Act {
     Withhold(Vec<usize>),
@@ -16,10 +21,9 @@ pub enum Act {
     },
 }
 
-// A count answers a withhold or a search, a page answers a print, and a table a witness.
+// What an act delivers that is not refused: a withhold or a search a count, a print a page, and a witness a table.
 #[derive(Drop)]
 pub enum Answer {
-    Refused(Refusal),
     Count(usize),
     Page(Vec<u8>),
     Table(Vec<u64>),

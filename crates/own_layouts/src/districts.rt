@@ -2,6 +2,7 @@
 ghost use Rattle.std.specs.Prelude.{◌≡◌, ◌≤◌, true, false, MatchResult};
 ghost use Rattle.refusals.specs.declared.Refusal.TheVariants.{LayoutSize};
 ghost use Rattle.own_layouts.specs.Districts.{districts as districts_shape, districts_size};
+ghost use Rattle.own_layouts.specs.Places.{place_of};
 ghost use Rattle.own_layouts.specs.Lawful.{districts_laws};
 
 use layouts::{Kind, Layout};
@@ -15,14 +16,37 @@ pub struct Districts {
     ghost sized: { (1 ≤ count) × (count ≤ 200) × (1 ≤ shops) × (shops ≤ 200) },
 }
 
+// Where a cell stands: a shop, by its district, or a total.
+#[derive(Clone, Copy)]
+enum Place {
+    Shop(usize),
+    DistrictTotal(usize),
+    GrandTotal,
+}
+
 impl Districts {
     pub fn new(count: usize, shops: usize) -> Result<Districts, Refusal>
         ensures { MatchResult result (λ d. (d.count ≡ count) × (d.shops ≡ shops) × (districts_size count shops ≡ true)) (λ e. (e ≡ LayoutSize) × (districts_size count shops ≡ false)) }
     {
-        if count < 1 || 200 < count || shops < 1 || 200 < shops {
+        if !(1..=200).contains(&count) || !(1..=200).contains(&shops) {
             return Err(Refusal::LayoutSize);
         }
         Ok(Districts { count, shops })
+    }
+
+    fn place(&self, cell: usize) -> Option<Place>
+        ensures { result ≡ place_of self.now.count self.now.shops cell }
+    {
+        let shops = self.count * self.shops;
+        if cell < shops {
+            Some(Place::Shop(cell / self.shops))
+        } else if cell < shops + self.count {
+            Some(Place::DistrictTotal(cell - shops))
+        } else if cell == shops + self.count {
+            Some(Place::GrandTotal)
+        } else {
+            None
+        }
     }
 }
 
@@ -40,49 +64,36 @@ impl Layout for Districts {
     }
 
     fn kind(&self, cell: usize) -> Option<Kind> {
-        let shops = self.count * self.shops;
-        if cell > shops + self.count {
-            return None;
+        match self.place(cell)? {
+            Place::Shop(_) => Some(Kind::Leaf),
+            _ => Some(Kind::Total),
         }
-        Some(if cell < shops {
-            Kind::Leaf
-        } else {
-            Kind::Total
-        })
     }
 
     fn leaves(&self, cell: usize) -> Option<usize> {
-        let shops = self.count * self.shops;
-        if cell < shops {
-            Some(self.count)
-        } else if cell < shops + self.count {
-            Some(cell - shops)
-        } else if cell == shops + self.count {
-            Some(self.count + 1)
-        } else {
-            None
+        match self.place(cell)? {
+            Place::Shop(_) => Some(self.count),
+            Place::DistrictTotal(district) => Some(district),
+            Place::GrandTotal => Some(self.count + 1),
         }
     }
 
     fn enters(&self, cell: usize) -> Option<usize> {
-        let shops = self.count * self.shops;
-        if cell < shops {
-            Some(cell / self.shops)
-        } else if cell < shops + self.count {
-            Some(self.count + 1)
-        } else if cell == shops + self.count {
-            Some(self.count)
-        } else {
-            None
+        match self.place(cell)? {
+            Place::Shop(district) => Some(district),
+            Place::DistrictTotal(_) => Some(self.count + 1),
+            Place::GrandTotal => Some(self.count),
         }
     }
 
     fn counts(&self, cell: usize, leaf: usize) -> Option<bool> {
-        let shops = self.count * self.shops;
-        if cell > shops + self.count || leaf >= shops {
+        if cell >= self.cells() {
             return None;
         }
-        let district = shops + leaf / self.shops;
-        Some(is_among(cell, &[leaf, district, shops + self.count]))
+        let Place::Shop(district) = self.place(leaf)? else {
+            return None;
+        };
+        let shops = self.count * self.shops;
+        Some(is_among(cell, &[leaf, shops + district, shops + self.count]))
     }
 }

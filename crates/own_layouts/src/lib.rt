@@ -15,13 +15,8 @@ mod tests {
 
     // The number of the refusal that making the layout or admitting it met, or 0.
     fn met<L: Layout + Drop>(heap: Global, made: Result<L, Refusal>) -> usize {
-        match made {
-            Ok(layout) => match admit(heap, &layout) {
-                Ok(_) => 0,
-                Err(refusal) => refusal.number(),
-            },
-            Err(refusal) => refusal.number(),
-        }
+        made.and_then(|layout| admit(heap, &layout))
+            .map_or_else(|refusal| refusal.number(), |_| 0)
     }
 
     #[test]

@@ -7,7 +7,7 @@ ghost use Rattle.own_rules.specs.FewLaws.{few_bound, few_order};
 
 use refusals::Refusal;
 use rules::Rule;
-use rules::telling::{LARGEST_AMOUNT, MOST_CONTRIBUTIONS};
+use rules::telling::verdict;
 
 #[derive(Clone, Copy)]
 pub struct FewContributors {
@@ -38,12 +38,7 @@ impl Rule for FewContributors {
     }
 
     fn tell(&mut self, amount: u64) -> Result<(), Refusal> {
-        if amount > LARGEST_AMOUNT {
-            return Err(Refusal::AmountTooLarge { cell: 0 });
-        }
-        if self.count >= MOST_CONTRIBUTIONS {
-            return Err(Refusal::TooManyContributions);
-        }
+        verdict(amount, self.count)?;
         *self = FewContributors {
             total: self.total + amount,
             count: self.count + 1,
@@ -99,10 +94,8 @@ mod tests {
         assert!(rt; NK::new(2, 49).is_err() && NK::new(2, 100).is_err() && NK::new(1, 50).is_ok());
     }
 
-    fn number(r: Result<u64, Refusal>) -> usize {
-        match r {
-            Ok(_) => 0,
-            Err(e) => e.number(),
-        }
+    // The number of the refusal, or 0.
+    fn number(answer: Result<u64, Refusal>) -> usize {
+        answer.map_or_else(|refusal| refusal.number(), |_| 0)
     }
 }

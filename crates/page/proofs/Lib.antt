@@ -1,5 +1,4 @@
 -- From digits to lines, from lines to pages, and from pages back to what they show.
-pub mod Numbers
 pub mod Lines
 pub mod Pages
 pub mod Reading

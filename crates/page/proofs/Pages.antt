@@ -1,21 +1,15 @@
 -- Writing a page line by line, for any loop that keeps the lines so far and then what the memory held.
-use Rattle.std.proofs.Common.{◌≡◌, ℕ, zero, suc, ◌+◌, ◌*◌, ◌^◌, ◌<◌, ◌≤◌, Bool, true, false, cond, List, [], ◌∷◌, ◌++◌, length, drop, Some, None, Option, sym, refl, ap, ◌∙◌, append_assoc, add-one, arith, length-append, length-drop}
+use Rattle.std.proofs.Common.{◌≡◌, ℕ, zero, suc, ◌+◌, ◌*◌, ◌^◌, ◌<◌, ◌≤◌, true, List, ◌++◌, length, drop, None, Option, sym, refl, ap, ◌∙◌, append_assoc, add-one, arith, length-append, length-drop}
 use Rattle.std.proofs.lemmas.List.{drop-drop, take_at, drop_at}
 use Rattle.std.proofs.lemmas.Bool.{lt-ltb, le-leb, leb-true, and_from, and_parts, cond-true}
+use Rattle.std.proofs.lemmas.List.Sums.{AllPass-from_list_all}
+use Rattle.std.proofs.lemmas.List.Elements.{All-get_or}
 use Rattle.page.specs.Page.{line, page, fits}
-use Rattle.page.specs.Writing.{line_room, line_over, line_left, shown_entry, all_fit, page_room}
+use Rattle.page.specs.Writing.{line_room, line_over, line_left, shown_entry, page_room}
 use Rattle.page.specs.Laws.{Printable}
 use Rattle.page.proofs.Lines.{length_line}
 
--- WHAT FITS
-pub fits_below : (s : Option ℕ) → ((v : ℕ) → s ≡ Some v → v < 10 ^ 13) → fits s ≡ true
-fits_below (Some v) h = lt-ltb v (10 ^ 13) (h v refl)
-fits_below None h = refl
-
-pub fits_withheld : (withheld : Bool) (v : ℕ) → v < 10 ^ 13 → fits (cond withheld None (Some v)) ≡ true
-fits_withheld true v h = refl
-fits_withheld false v h = lt-ltb v (10 ^ 13) h
-
+-- WHAT CAN BE PRINTED
 pub printable_below : (m n : ℕ) (shows : ℕ → Option ℕ) → m ≤ n → Printable n shows → Printable m shows
 printable_below m n shows h p = record { few = omega arith; fit = λ c l. p.fit c (omega arith) }
 
@@ -34,16 +28,12 @@ page_same zero shows other h = refl
 page_same (suc n) shows other h = rw (page_same n shows other (λ c l. h c (omega arith)), h n (omega arith))
 
 -- WHERE THERE IS ROOM
-fits_each : (xs : List (Option ℕ)) → all_fit xs ≡ true → (c : ℕ) → c < length xs → fits (shown_entry xs c) ≡ true
-fits_each [] h c l = absurd (omega arith)
-fits_each (x ∷ xs) h zero l = (and_parts _ _ h).0
-fits_each (x ∷ xs) h (suc c) l = fits_each xs (and_parts _ _ h).1 c (omega arith)
-
 pub room_printable : (size : ℕ) (xs : List (Option ℕ)) → page_room size xs ≡ true → Printable (length xs) (shown_entry xs) × (19 * length xs ≤ size)
 room_printable size xs h =
     let a = and_parts _ _ h in
     let b = and_parts _ _ a.1 in
-    (record { few = leb-true _ _ a.0; fit = fits_each xs b.0 }, leb-true _ _ b.1)
+    let all = AllPass-from_list_all fits xs b.0 in
+    (record { few = leb-true _ _ a.0; fit = λ c l. All-get_or (λ s. fits s ≡ true) xs c None l all }, leb-true _ _ b.1)
 
 -- THE STEPS OF THE LOOP
 -- before the first line

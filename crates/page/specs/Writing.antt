@@ -1,7 +1,8 @@
 -- What writing a line or a page answers, and what it leaves of the memory.
-use Rattle.std.specs.Prelude.{ℕ, ◌+◌, ◌*◌, ◌^◌, Bool, true, cond, ◌&&◌, List, [], ◌∷◌, ◌++◌, length, take, drop, None, Ok, Err, Option, Result, nat_le, nat_lt, slice_index_or}
+use Rattle.std.specs.Prelude.{ℕ, ◌+◌, ◌*◌, ◌^◌, Bool, cond, ◌&&◌, List, ◌++◌, length, take, drop, None, Ok, Err, Option, Result, nat_le, nat_lt, slice_index_or}
 use Rattle.refusals.specs.declared.Refusal.{Refusal}
 use Rattle.refusals.specs.declared.Refusal.TheVariants.{MemorySize}
+use Rattle.std.specs.List.{list_all}
 use Rattle.page.specs.Page.{line, page, fits}
 
 -- the answer where there is room, or the refusal
@@ -26,13 +27,9 @@ line_left before c s = cond (line_room (length before) c s) (line_over before c 
 abbrev pub shown_entry : List (Option ℕ) → ℕ → Option ℕ
 shown_entry xs c = slice_index_or xs c None
 
-abbrev pub all_fit : List (Option ℕ) → Bool
-all_fit [] = true
-all_fit (x ∷ xs) = fits x && all_fit xs
-
 -- memory of this size has room for the page, and its numbers and figures fit their columns
 abbrev pub page_room : ℕ → List (Option ℕ) → Bool
-page_room size xs = nat_le (length xs) (10 ^ 4) && (all_fit xs && nat_le (19 * length xs) size)
+page_room size xs = nat_le (length xs) (10 ^ 4) && (list_all fits xs && nat_le (19 * length xs) size)
 
 -- what a call leaves: the page and then what stood there, or all as it was
 abbrev pub page_left : List ℕ → List (Option ℕ) → List ℕ

@@ -2,9 +2,10 @@
 #![tactic(auto)]
 
 ghost use Rattle.std.specs.Prelude.{◌≡◌, ◌+◌, ◌*◌, ◌<◌, true, length};
+ghost use Rattle.std.specs.List.{list_all};
 ghost use Rattle.page.specs.Laws.{PageLaws};
 ghost use Rattle.page.specs.Page.{fits};
-ghost use Rattle.page.specs.Writing.{all_fit, if_room, line_left, line_over, line_room, page_left, page_room};
+ghost use Rattle.page.specs.Writing.{if_room, line_left, line_over, line_room, page_left, page_room};
 
 use refusals::Refusal;
 
@@ -13,7 +14,7 @@ mod columns;
 use columns::fill_line;
 
 // the bytes of a line
-const LINE: usize = 19;
+pub const LINE: usize = 19;
 
 // a cell's number has four digits
 const CELLS: usize = 10_000;
@@ -24,21 +25,13 @@ const FIGURES: u64 = 10_000_000_000_000;
 fn fits_columns(shown: Option<u64>) -> bool
     ensures { result ≡ fits shown }
 {
-    match shown {
-        Some(figure) => figure < FIGURES,
-        None => true,
-    }
+    shown.is_none_or(|figure| figure < FIGURES)
 }
 
 fn all_fit(shown: &[Option<u64>]) -> bool
-    ensures { result ≡ all_fit shown.now }
+    ensures { result ≡ list_all fits shown.now }
 {
-    for figure in shown {
-        if !fits_columns(*figure) {
-            return false;
-        }
-    }
-    true
+    shown.iter().all(|figure| fits_columns(*figure))
 }
 
 fn line_fits(size: usize, cell: usize, shown: Option<u64>) -> bool
@@ -53,6 +46,7 @@ fn page_fits(size: usize, shown: &[Option<u64>]) -> bool
     shown.len() <= CELLS && all_fit(shown) && LINE * shown.len() <= size
 }
 
+#[tactic(auto, unfolding(crate::specs::Writing::line_over))]
 fn put_line(memory: &mut [u8], cell: usize, shown: Option<u64>)
     requires { line_room (length memory.old) cell shown ≡ true }
     ensures { memory.new ≡ line_over memory.old cell shown }

@@ -1,6 +1,6 @@
 -- The audit names the first cell that is exposed.
-use Rattle.std.proofs.Common.{◌≡◌, ℕ, ◌<◌, ◌≤◌, Bool, true, false, cond, ◌&&◌, Some, None, Option, sym, refl, ap, ◌∙◌, subst, inl, inr, ⊎_elim, arith}
-use Rattle.std.proofs.lemmas.Bool.{cases_Bool, false≢true, both_ways, and_parts, and_from, cond-true, cond-false, lt-ltb}
+use Rattle.std.proofs.Common.{◌≡◌, ℕ, ◌<◌, ◌≤◌, Bool, true, false, cond, Some, None, Option, sym, refl, ap, subst, inl, inr, ⊎_elim, arith}
+use Rattle.std.proofs.lemmas.Bool.{cases_Bool, false≢true, both_ways, and_parts, and_from}
 use Rattle.refusals.specs.declared.Side.{Side}
 use Rattle.refusals.specs.declared.Side.TheVariants.{Up, Down}
 use Rattle.readings.specs.Exposure.{is_exposed, Figures, sensitive, is_told, exposure_at, audit}
@@ -10,8 +10,8 @@ use Rattle.readings.proofs.Firsts.{first_none, none_first, first_some}
 
 -- What the answer at a cell says of its two tests.
 pub picked_none : (a b : Bool) (c : ℕ) → ◌≡◌ {A = Option (ℕ × Side)} (cond a (Some (c, Up)) (cond b (Some (c, Down)) None)) None → (a ≡ false) × (b ≡ false)
-picked_none true b c e = let z : ◌≡◌ {A = ℕ} 0 1 = cc in absurd (omega arith)
-picked_none false true c e = let z : ◌≡◌ {A = ℕ} 0 1 = cc in absurd (omega arith)
+picked_none true b c e = cc
+picked_none false true c e = cc
 picked_none false false c e = (refl, refl)
 
 pub none_picked : (a b : Bool) (c : ℕ) → a ≡ false → b ≡ false → ◌≡◌ {A = Option (ℕ × Side)} (cond a (Some (c, Up)) (cond b (Some (c, Down)) None)) None
@@ -30,7 +30,7 @@ picked : (a b : Bool) (c i : ℕ) (side : Side) → ◌≡◌ {A = Option (ℕ �
     → (i ≡ c) × PickSide a b side
 picked true b c i side e = let p = some_same (c, Up) (i, side) e in (sym (ap (λ (t : ℕ × Side). t.0) p), subst (PickSide true b) (ap (λ (t : ℕ × Side). t.1) p) refl)
 picked false true c i side e = let p = some_same (c, Down) (i, side) e in (sym (ap (λ (t : ℕ × Side). t.0) p), subst (PickSide false true) (ap (λ (t : ℕ × Side). t.1) p) (refl, refl))
-picked false false c i side e = let z : ◌≡◌ {A = ℕ} 0 1 = cc in absurd (omega arith)
+picked false false c i side e = cc
 
 room_at : (v : ℕ → ℕ) (k t : ℕ) (side : Side) → k ≤ v t → Room v k t side
 room_at v k t Up h = tt
@@ -70,7 +70,7 @@ module _ (F : Figures) (withheld : ℕ → Bool) where
     picked_told i Down h = h.1
 
     picked_up : (i : ℕ) (side : Side) → PickSide (is_told F withheld i Up) (is_told F withheld i Down) side → side ≡ Down → is_told F withheld i Up ≡ false
-    picked_up i Up h e = let z : ◌≡◌ {A = ℕ} 0 1 = cc in absurd (omega arith)
+    picked_up i Up h e = cc
     picked_up i Down h e = h.0
 
     -- what the audit's answer says of the tests
@@ -103,21 +103,3 @@ audit_right_lem F withheld fit = record {
   up_first = λ c e. let w = named F withheld fit c Down e in
       not_told_hidden F withheld fit c w.inside (and_parts (sensitive F.need c) _ w.told).0 Up (w.not_up refl);
 }
-
--- What the trials of one cell say of it.
-module _ (F : Figures) (withheld : ℕ → Bool) (c : ℕ) where
-  abbrev test : Side → Bool
-  test side = is_exposed F.shape withheld F.figure (F.need c) c side
-
-  told_is : (side : Side) (r : Bool) → 0 < F.need c → r ≡ test side → is_told F withheld c side ≡ r
-  told_is side r h e = ap (λ b. b && test side) (lt-ltb 0 (F.need c) h) ∙ sym e
-
-  pub up_exposed : 0 < F.need c → true ≡ test Up → Some (c, Up) ≡ exposure_at F withheld c
-  up_exposed h e = sym (cond-true (is_told F withheld c Up) (Some (c, Up)) _ (told_is Up true h e))
-
-  pub down_exposed : 0 < F.need c → false ≡ test Up → true ≡ test Down → Some (c, Down) ≡ exposure_at F withheld c
-  down_exposed h e f =
-      sym (cond-false (is_told F withheld c Up) (Some (c, Up)) _ (told_is Up false h e) ∙ cond-true (is_told F withheld c Down) (Some (c, Down)) None (told_is Down true h f))
-
-  pub not_exposed : 0 < F.need c → false ≡ test Up → false ≡ test Down → None ≡ exposure_at F withheld c
-  not_exposed h e f = sym (none_picked (is_told F withheld c Up) (is_told F withheld c Down) c (told_is Up false h e) (told_is Down false h f))

@@ -5,7 +5,7 @@ use Rattle.readings.specs.Exposure.{or_else, first_from}
 
 module _ {A : Type 0} where
   or_else_none : (x y : Option A) → or_else x y ≡ None → (x ≡ None) × (y ≡ None)
-  or_else_none (Some a) y e = let z : ◌≡◌ {A = ℕ} 0 1 = cc in absurd (omega arith)
+  or_else_none (Some a) y e = cc
   or_else_none None y e = (refl, e)
 
   pub first_none : (n k : ℕ) (f : ℕ → Option A) → first_from n k f ≡ None → (c : ℕ) → k ≤ c → c < k + n → f c ≡ None
@@ -30,7 +30,7 @@ module _ {A : Type 0} where
 
   pub first_some : (n k : ℕ) (f : ℕ → Option A) (a : A) → first_from n k f ≡ Some a → FoundFirst n k f a
   unfolding first_from
-  first_some zero k f a e = let z : ◌≡◌ {A = ℕ} 0 1 = cc in absurd (omega arith)
+  first_some zero k f a e = cc
   first_some (suc n) k f a e = by (λ h. first_some n (suc k) f a h) (f k) refl e
     where
       by : (first_from n (suc k) f ≡ Some a → FoundFirst n (suc k) f a) → (x : Option A) → f k ≡ x → or_else x (first_from n (suc k) f) ≡ Some a → FoundFirst (suc n) k f a

@@ -9,5 +9,5 @@ pub mod Ends
 pub mod Reaching
 pub mod Walking
 pub mod Tried
-pub mod Lending
+pub mod Networks
 pub mod Written

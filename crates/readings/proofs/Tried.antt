@@ -1,31 +1,33 @@
 -- The steps of a trial.
-use Rattle.std.proofs.Common.{◌≡◌, ℕ, ◌<◌, ◌≤◌, Bool, true, false, eqb, List, length, get_or, set, sym, refl, ap, ◌∙◌, subst, inl, inr, ⊎_elim, arith, get_or-set_other, get_or-set_same}
+use Rattle.std.proofs.Common.{◌≡◌, ℕ, ◌<◌, ◌≤◌, Bool, true, false, List, length, get_or, set, sym, refl, ap, ◌∙◌, subst, inl, inr, ⊎_elim, arith, get_or-set_other, get_or-set_same}
 use mathlib.Core.Path.{fun_ext}
 use Rattle.std.proofs.lemmas.List.{set-set, set-get_or}
 use Rattle.std.proofs.lemmas.Bool.{cases_Bool, cases_eq, both_ways}
 use Rattle.refusals.specs.declared.Side.{Side}
 use Rattle.refusals.specs.declared.Side.TheVariants.{Up, Down}
 use Rattle.layouts.specs.Shape.{Shape}
+use Rattle.layouts.specs.declared.memory.Cover.{Cover}
+use Rattle.layouts.specs.declared.memory.Cover.TheVariants.{Shown, Barred}
 use Rattle.readings.specs.Balance.{Balanced, Sound}
 use Rattle.readings.specs.Readings.{Away, Reading, Witness}
 use Rattle.readings.specs.Exposure.{besides, is_exposed}
-use Rattle.readings.specs.Paths.{turned, withheld_by, Changed, Closed, Partly, Trying}
+use Rattle.readings.specs.Paths.{turned, is_withheld, withheld_by, Changed, Closed, Partly, Trying}
 use Rattle.readings.proofs.Walls.{besides_t, besides_other, exposed_near, Near, walled_exposed}
 
 -- The cells that are withheld once t is barred are the withheld ones besides t.
-pub barred_besides : (marks barred : List ℕ) (t : ℕ) → t < length marks → barred ≡ set marks t 2 → withheld_by barred ≡ besides (withheld_by marks) t
-barred_besides marks barred t l e = fun_ext (λ c. ap (λ (m : List ℕ). withheld_by m c) e ∙ ⊎_elim (here c) (other c) (cases_eq c t))
+pub barred_besides : (covers : List Cover) (bar : Cover) (t : ℕ) → t < length covers → bar ≡ Barred → withheld_by (set covers t bar) ≡ besides (withheld_by covers) t
+barred_besides covers bar t l e = fun_ext (λ c. ⊎_elim (here c) (other c) (cases_eq c t))
   where
-    here : (c : ℕ) → c ≡ t → withheld_by (set marks t 2) c ≡ besides (withheld_by marks) t c
-    here c i = subst (λ k. withheld_by (set marks t 2) k ≡ besides (withheld_by marks) t k) (sym i)
-        (ap (λ n. eqb n 1) (get_or-set_same marks t 2 0 l) ∙ sym (besides_t (withheld_by marks) t))
+    here : (c : ℕ) → c ≡ t → withheld_by (set covers t bar) c ≡ besides (withheld_by covers) t c
+    here c i = subst (λ k. withheld_by (set covers t bar) k ≡ besides (withheld_by covers) t k) (sym i)
+        (ap is_withheld (get_or-set_same covers t bar Shown l ∙ e) ∙ sym (besides_t (withheld_by covers) t))
 
-    other : (c : ℕ) → (c ≡ t → ⊥) → withheld_by (set marks t 2) c ≡ besides (withheld_by marks) t c
-    other c ne = ap (λ n. eqb n 1) (get_or-set_other marks t c 2 0 ne) ∙ sym (besides_other (withheld_by marks) t c ne)
+    other : (c : ℕ) → (c ≡ t → ⊥) → withheld_by (set covers t bar) c ≡ besides (withheld_by covers) t c
+    other c ne = ap is_withheld (get_or-set_other covers t c bar Shown ne) ∙ sym (besides_other (withheld_by covers) t c ne)
 
--- the saved byte, put back over the bar, gives the marks as they were
-pub put_back : (marks barred : List ℕ) (t saved : ℕ) → barred ≡ set marks t 2 → saved ≡ get_or marks t 0 → set barred t saved ≡ marks
-put_back marks barred t saved e f = rw (e, f) (simp (set-set, set-get_or))
+-- the saved cover, put back over the bar, gives the covers as they were
+pub put_back : (covers : List Cover) (bar saved : Cover) (t : ℕ) → saved ≡ get_or covers t Shown → set (set covers t bar) t saved ≡ covers
+put_back covers bar saved t e = rw e (simp (set-set, set-get_or))
 
 module _ (sh : Shape) (side : Side) (pass : ℕ → Bool) (v : ℕ → ℕ) (k t : ℕ) where
   partly_start : (s : Side) (n : ℕ) → Partly s k k n n

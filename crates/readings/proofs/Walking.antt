@@ -38,6 +38,10 @@ module _ (sh : Shape) (pass : ℕ → Bool) (y : ℕ → ℕ) (d : ℕ) (layer :
         apart i (inl h) j = omega (arith, ap (λ k. layer (sh.leaves k)) j)
         apart i (inr h) j = omega (arith, ap (λ k. layer (sh.enters k)) j)
 
+-- the same walk, from a goal that is known as g
+pub walked_from : (sh : Shape) (pass : ℕ → Bool) (y : ℕ → ℕ) (d : ℕ) (layer : ℕ → ℕ) (goal g r : ℕ) (x : ℕ → ℕ) → goal ≡ g → Walked sh pass y d layer goal r x → Walked sh pass y d layer g r x
+walked_from sh pass y d layer goal g r x e w = subst (λ i. Walked sh pass y d layer i r x) e w
+
 -- one cell of the path, in a list
 module _ (sh : Shape) (pass : ℕ → Bool) (y : ℕ → ℕ) (d : ℕ) (layer : ℕ → ℕ) (goal r c : ℕ) (xs : List ℕ) (ok : Sound sh)
     (lc : sh.cells ≤ length xs) (k : Came sh pass y d layer r c) (w : Walked sh pass y d layer goal r (at xs)) (lr : layer r < sh.relations) where

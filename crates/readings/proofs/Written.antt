@@ -1,6 +1,6 @@
 -- A table that is written at the front of longer memory.
-use Rattle.std.proofs.Common.{◌≡◌, ℕ, ◌+◌, ◌-◌, ◌<◌, ◌≤◌, Bool, cond, eqb, List, ◌++◌, length, drop, sym, refl, ap, ◌∙◌, subst, arith}
-use Rattle.std.proofs.lemmas.List.{get_or_append_left, get_or-append_right, get_or-drop}
+use Rattle.std.proofs.Common.{◌≡◌, ℕ, ◌<◌, Bool, cond, eqb, List, ◌++◌, length, drop, sym, ap, ◌∙◌, subst}
+use Rattle.std.proofs.lemmas.List.{get_or_append_left}
 use Rattle.refusals.specs.declared.Side.{Side}
 use Rattle.sums.proofs.SumBelow.{sum_same}
 use Rattle.layouts.specs.Shape.{Shape}
@@ -9,11 +9,6 @@ use Rattle.readings.specs.Paths.{at}
 
 pub front_inside : (memory table written : List ℕ) → written ≡ table ++ drop (length table) memory → (c : ℕ) → c < length table → at written c ≡ at table c
 front_inside memory table written e c l = ap (λ (xs : List ℕ). at xs c) e ∙ get_or_append_left table (drop (length table) memory) 0 c l
-
-pub front_beyond : (memory table written : List ℕ) → written ≡ table ++ drop (length table) memory → (c : ℕ) → length table ≤ c → at written c ≡ at memory c
-front_beyond memory table written e c l =
-    let n : length table + (c - length table) ≡ c = omega arith in
-    ap (λ (xs : List ℕ). at xs c) e ∙ get_or-append_right table (drop (length table) memory) (length table) c 0 refl l ∙ get_or-drop (length table) memory (c - length table) 0 ∙ ap (at memory) n
 
 -- A table with the same values at the cells is a witness too.
 pub witness_same : (sh : Shape) (withheld : ℕ → Bool) (v : ℕ → ℕ) (k t : ℕ) (side : Side) (y z : ℕ → ℕ) → t < sh.cells

@@ -5,4 +5,5 @@ pub mod Theorems
 pub mod Worked
 pub mod Paths
 pub mod Rows
+pub mod Tables
 pub mod Witnesses

@@ -1,13 +1,16 @@
 -- Paths of changes from the relation that the tried cell enters to the one that it leaves: each cell on the way is raised, or
 -- lowered, by the same amount, so that only the two ends of the path are out of balance.
-use Rattle.std.specs.Prelude.{◌≡◌, ℕ, ◌+◌, ◌-◌, ◌<◌, ◌≤◌, Bool, true, false, cond, not, ◌&&◌, ◌⊎◌, List, [], Some, None, Option, ◌==◌, ◌≢◌, nat_le, nat_lt, slice_index}
+use Rattle.std.specs.Prelude.{◌≡◌, ℕ, ◌+◌, ◌-◌, ◌<◌, ◌≤◌, Bool, true, false, cond, not, ◌&&◌, ◌⊎◌, List, Some, None, Option, ◌==◌, ◌≢◌, is_some, nat_le, nat_lt, slice_index, slice_index_or}
 use Rattle.refusals.specs.declared.Side.{Side}
 use Rattle.refusals.specs.declared.Side.TheVariants.{Up, Down}
 use Rattle.sums.specs.Sums.{sum_below}
 use Rattle.layouts.specs.Shape.{Shape}
-use Rattle.layouts.specs.Copied.{copied}
+use Rattle.layouts.specs.declared.memory.Cover.{Cover}
+use Rattle.layouts.specs.declared.memory.Cover.TheVariants.{Shown, Withheld, Barred}
+use Rattle.layouts.specs.declared.memory.Reach.{Reach}
 use Rattle.readings.specs.Balance.{entering_sum, leaving_sum, Balanced}
-use Rattle.readings.specs.Exposure.{behind, ahead, first_from}
+use Rattle.readings.specs.Readings.{Witness}
+use Rattle.readings.specs.Exposure.{behind, ahead, first_from, Figures, is_exposed}
 
 -- The layout as the paths of a side see it: a path raises a cell that it passes from `leaves` to `enters`.
 abbrev pub turned : Shape → Side → Shape
@@ -33,35 +36,55 @@ pub record Closed (sh : Shape) (pass : ℕ → Bool) (y : ℕ → ℕ) (d : ℕ)
   pub no_raise : (c : ℕ) → c < sh.cells → pass c ≡ true → S (sh.leaves c) ≡ true → S (sh.enters c) ≡ true
   pub no_lower : (c : ℕ) → c < sh.cells → pass c ≡ true → S (sh.enters c) ≡ true → d ≤ y c → S (sh.leaves c) ≡ true
 
--- the layout of two lists of relations; which leaves count under a cell plays no part in paths
-abbrev pub arcs : ℕ → List ℕ → List ℕ → Shape
-arcs relations leaves enters = copied relations leaves enters [] []
-
 -- a list as a table
 abbrev pub at : List ℕ → ℕ → ℕ
 at xs c = slice_index xs c
 
--- the cells that the mark bytes withhold: 0 is shown, 1 withheld, 2 barred while it is tried
-abbrev pub withheld_by : List ℕ → ℕ → Bool
-withheld_by marks c = slice_index marks c == 1
+abbrev pub is_withheld : Cover → Bool
+is_withheld Shown = false
+is_withheld Withheld = true
+is_withheld Barred = false
+
+-- the cells that the covers withhold; past their end there is none
+abbrev pub withheld_by : List Cover → ℕ → Bool
+withheld_by covers c = is_withheld (slice_index_or covers c Shown)
 
 -- A search numbers the relations in the order in which it reaches them; one that is not reached has the layer m.
 abbrev pub reached : ℕ → (ℕ → ℕ) → ℕ → Bool
 reached m layer r = nat_lt (layer r) m
 
--- by the cell c a reached relation leads to one that is not reached yet: c is raised on the way, or lowered and has d
-abbrev pub is_leading : Shape → Side → (ℕ → Bool) → (ℕ → ℕ) → ℕ → (ℕ → ℕ) → ℕ → Bool
-is_leading sh side pass y d layer c =
-    pass c && cond (reached sh.relations layer (behind sh side c)) (not (reached sh.relations layer (ahead sh side c)))
-    (reached sh.relations layer (ahead sh side c) && nat_le d (y c))
+-- whether the relation r is reached, in which layer, and by which cell
+abbrev pub way_to : List (Option Reach) → ℕ → Option Reach
+way_to ways r = slice_index_or ways r None
+
+abbrev pub is_reached : List (Option Reach) → ℕ → Bool
+is_reached ways r = is_some (way_to ways r)
+
+abbrev pub layer_of : ℕ → Option Reach → ℕ
+layer_of m (Some w) = w.layer
+layer_of m None = m
+
+abbrev pub layer_in : ℕ → List (Option Reach) → ℕ → ℕ
+layer_in m ways r = layer_of m (way_to ways r)
+
+abbrev pub via_of : Option Reach → ℕ
+via_of (Some w) = w.via
+via_of None = 0
+
+abbrev pub via_in : List (Option Reach) → ℕ → ℕ
+via_in ways r = via_of (way_to ways r)
+
+-- by the cell c a relation of R leads to one outside: c is raised on the way, or lowered and has d
+abbrev pub is_leading : Shape → Side → (ℕ → Bool) → (ℕ → ℕ) → ℕ → (ℕ → Bool) → ℕ → Bool
+is_leading sh side pass y d R c = pass c && cond (R (behind sh side c)) (not (R (ahead sh side c))) (R (ahead sh side c) && nat_le d (y c))
 
 -- the first such cell from the number `from` on
-abbrev pub next_cell : Shape → Side → (ℕ → Bool) → (ℕ → ℕ) → ℕ → (ℕ → ℕ) → ℕ → Option ℕ
-next_cell sh side pass y d layer from = first_from (sh.cells - from) from (λ c. cond (is_leading sh side pass y d layer c) (Some c) None)
+abbrev pub next_cell : Shape → Side → (ℕ → Bool) → (ℕ → ℕ) → ℕ → (ℕ → Bool) → ℕ → Option ℕ
+next_cell sh side pass y d R from = first_from (sh.cells - from) from (λ c. cond (is_leading sh side pass y d R c) (Some c) None)
 
--- of the two relations of such a cell, the one that is not reached
-abbrev pub far_end_of : Shape → (ℕ → ℕ) → ℕ → ℕ
-far_end_of sh layer c = cond (reached sh.relations layer (sh.leaves c)) (sh.enters c) (sh.leaves c)
+-- of the two relations of such a cell, the one outside
+abbrev pub far_end_of : Shape → (ℕ → Bool) → ℕ → ℕ
+far_end_of sh R c = cond (R (sh.leaves c)) (sh.enters c) (sh.leaves c)
 
 -- How a relation r other than the start was reached: by the cell c, from a relation of a lower layer.
 pub record Came (sh : Shape) (pass : ℕ → Bool) (y : ℕ → ℕ) (d : ℕ) (layer : ℕ → ℕ) (r c : ℕ) : Type 0 where
@@ -129,3 +152,8 @@ pub record Trying (sh : Shape) (side : Side) (pass : ℕ → Bool) (v : ℕ → 
   pub near : (c : ℕ) → c < sh.cells → y c + left ≤ v c + k
   pub at_most : d ≤ left
   pub some : 0 < left → 0 < d
+
+-- What a trial of the cell t tells: whether it is exposed; and where it is not, the table y is a reading that shows it.
+pub record Tried (F : Figures) (withheld : ℕ → Bool) (t : ℕ) (side : Side) (told : Bool) (y : ℕ → ℕ) : Type 0 where
+  pub right : told ≡ is_exposed F.shape withheld F.figure (F.need t) t side
+  pub shown : told ≡ false → Witness F.shape withheld F.figure (F.need t) t side y

@@ -1,61 +1,36 @@
-// The audit of all sensitive cells, over slices.
-ghost use Rattle.std.specs.Prelude.{◌≡◌, ℕ, ◌+◌, ◌^◌, ◌<◌, length};
+// The audit of all sensitive cells.
+ghost use Rattle.std.specs.Prelude.{◌≡◌, ◌<◌, length};
+ghost use Rattle.layouts.specs.Admission.{shape_of};
 ghost use Rattle.readings.specs.Exposure.{audit, exposure_at};
-ghost use Rattle.readings.specs.Paths.{arcs, withheld_by};
-ghost use Rattle.readings.specs.Rows.{figures, looked_at, needs};
-ghost use Rattle.readings.specs.Theorems.{Fit};
+ghost use Rattle.readings.specs.Paths.{withheld_by};
+ghost use Rattle.readings.specs.Rows.{looked_at};
+ghost use Rattle.readings.specs.Tables.{Lent};
 
-use crate::trial::{need_of, trial};
-use layouts::memory::Row;
+use crate::trial::trial;
+use layouts::memory::{Bench, Row};
+use layouts::network::Network;
 use refusals::Side;
 
 // Where the cell is exposed, if it is sensitive, up before down.
 fn exposed_at(
-    relations: usize,
-    leaves: &[usize],
-    enters: &[usize],
+    network: &Network,
     rows: &[Row],
-    marks: &mut [u8],
-    table: &mut [u64],
-    layer: &mut [usize],
-    via: &mut [usize],
+    bench: &mut Bench,
     cell: usize,
 ) -> Option<(usize, Side)>
-    requires sizes { (length enters.now ≡ length leaves.now) × (length rows.now ≡ length leaves.now) × (length marks.old ≡ length leaves.now) × (length table.old ≡ length leaves.now) × (length layer.old ≡ relations) × (length via.old ≡ relations) × (cell < length leaves.now) }
-    requires fit { Fit (looked_at (arcs relations leaves.now enters.now) rows.now) (withheld_by marks.old) }
-    requires fits { (c t : ℕ) → c < length rows.now → t < length rows.now → figures rows.now c + needs rows.now t < 2 ^ 64 }
-    ensures kept { marks.new ≡ marks.old }
-    ensures says { result ≡ exposure_at (looked_at (arcs relations leaves.now enters.now) rows.now) (withheld_by marks.old) cell }
+    requires lent { Lent network.now rows.now bench.old }
+    requires inside { cell < length rows.now }
+    ensures lent { Lent network.now rows.now bench.new }
+    ensures kept { bench.new.covers.items ≡ bench.old.covers.items }
+    ensures says { result ≡ exposure_at (looked_at (shape_of network.now) rows.now) (withheld_by bench.old.covers.items) cell }
 {
-    if need_of(rows, cell) == 0 {
+    if rows[cell].need == 0 {
         return None;
     }
-    if trial(
-        relations,
-        leaves,
-        enters,
-        rows,
-        marks,
-        table,
-        layer,
-        via,
-        Side::Up,
-        cell,
-    ) {
+    if trial(network, rows, bench, Side::Up, cell) {
         return Some((cell, Side::Up));
     }
-    if trial(
-        relations,
-        leaves,
-        enters,
-        rows,
-        marks,
-        table,
-        layer,
-        via,
-        Side::Down,
-        cell,
-    ) {
+    if trial(network, rows, bench, Side::Down, cell) {
         return Some((cell, Side::Down));
     }
     None
@@ -63,25 +38,17 @@ fn exposed_at(
 
 // The lowest sensitive cell that is exposed, up before down.
 pub(crate) fn first_exposed(
-    relations: usize,
-    leaves: &[usize],
-    enters: &[usize],
+    network: &Network,
     rows: &[Row],
-    marks: &mut [u8],
-    table: &mut [u64],
-    layer: &mut [usize],
-    via: &mut [usize],
+    bench: &mut Bench,
 ) -> Option<(usize, Side)>
-    requires sizes { (length enters.now ≡ length leaves.now) × (length rows.now ≡ length leaves.now) × (length marks.old ≡ length leaves.now) × (length table.old ≡ length leaves.now) × (length layer.old ≡ relations) × (length via.old ≡ relations) }
-    requires fit { Fit (looked_at (arcs relations leaves.now enters.now) rows.now) (withheld_by marks.old) }
-    requires fits { (c t : ℕ) → c < length rows.now → t < length rows.now → figures rows.now c + needs rows.now t < 2 ^ 64 }
-    ensures kept { marks.new ≡ marks.old }
-    ensures says { result ≡ audit (looked_at (arcs relations leaves.now enters.now) rows.now) (withheld_by marks.old) }
+    requires { Lent network.now rows.now bench.old }
+    ensures lent { Lent network.now rows.now bench.new }
+    ensures kept { bench.new.covers.items ≡ bench.old.covers.items }
+    ensures says { result ≡ audit (looked_at (shape_of network.now) rows.now) (withheld_by bench.old.covers.items) }
 {
-    for cell in 0..leaves.len() {
-        if let Some(found) = exposed_at(
-            relations, leaves, enters, rows, marks, table, layer, via, cell,
-        ) {
+    for cell in 0..rows.len() {
+        if let Some(found) = exposed_at(network, rows, bench, cell) {
             return Some(found);
         }
     }

@@ -1,30 +1,31 @@
-// The trial of one cell on one side: its own mark is barred meanwhile, so that no path runs back through it.
-ghost use Rattle.std.specs.Prelude.{◌≡◌, ℕ, ◌+◌, ◌^◌, ◌<◌, ◌≤◌, true, false, map, length, slice_index, slice_set};
-ghost use Rattle.readings.specs.Balance.{Balanced, Sound};
-ghost use Rattle.readings.specs.Exposure.{is_exposed};
-ghost use Rattle.readings.specs.Paths.{arcs, at, withheld_by};
-ghost use Rattle.readings.specs.Readings.{Witness};
-ghost use Rattle.readings.specs.Rows.{figures, needs};
+// The trial of one cell on one side: its own cover is barred meanwhile, so that no path runs back through it.
+ghost use Rattle.std.specs.Prelude.{◌≡◌, ◌<◌, true, map, length, slice_set};
+ghost use Rattle.layouts.specs.Admission.{shape_of};
+ghost use Rattle.readings.specs.Paths.{Tried, at, withheld_by};
+ghost use Rattle.readings.specs.Rows.{looked_at, needs};
+ghost use Rattle.readings.specs.Tables.{Lent, Tabled};
 
-use crate::paths::{BARRED, change};
-use layouts::memory::Row;
+use crate::paths::change;
+use layouts::memory::{Bench, Cover, Reach, Row};
+use layouts::network::Network;
 use refusals::Side;
+use std::mem;
 
-// Holds the trial's mark bytes while a cell is barred, and puts the cell's own byte back when it is let go.
+// Holds the trial's covers while a cell is barred, and puts the cell's own cover back when it is let go.
 struct Barred<'a> {
-    marks: &'a mut [u8],
+    covers: &'a mut [Cover],
     cell: usize,
-    saved: u8,
+    saved: Cover,
 }
 
 impl Drop for Barred<'_> {
     fn drop(self)
-        requires { self.cell < length self.marks.now }
-        ensures { self.exit.0.now ≡ slice_set self.entry.marks.now self.entry.cell self.entry.saved }
+        requires { self.cell < length self.covers.now }
+        ensures { self.exit.0.now ≡ slice_set self.entry.covers.now self.entry.cell self.entry.saved }
     {
-        self.marks[self.cell] = self.saved;
+        self.covers[self.cell] = self.saved;
         let Barred {
-            marks: _,
+            covers: _,
             cell: _,
             saved: _,
         } = self;
@@ -32,31 +33,12 @@ impl Drop for Barred<'_> {
 }
 
 impl<'a> Barred<'a> {
-    // The mark bytes, lent on for the scan.
-    fn view(&self) -> &[u8]
-        ensures { result.now ≡ self.now.marks.now }
+    // The covers, lent on for the search.
+    fn view(&self) -> &[Cover]
+        ensures { result.now ≡ self.now.covers.now }
     {
-        &*self.marks
+        &*self.covers
     }
-}
-
-// Bars the cell, and gives the byte that stood there.
-fn bar(marks: &mut [u8], cell: usize) -> u8
-    requires { cell < length marks.old }
-    ensures barred { marks.new ≡ slice_set marks.old cell 2 }
-    ensures saved { result ≡ slice_index marks.old cell }
-{
-    let saved = marks[cell];
-    marks[cell] = BARRED;
-    saved
-}
-
-// The need of the cell.
-pub(crate) fn need_of(rows: &[Row], cell: usize) -> u64
-    requires { cell < length rows.now }
-    ensures { result ≡ needs rows.now cell }
-{
-    rows[cell].need
 }
 
 // Copies the figures of the rows into the table.
@@ -74,47 +56,32 @@ fn copy_figures(rows: &[Row], table: &mut [u64])
 // The amounts go by halves. Where no path has the amount d, a closed set of relations has only cells with less than d on its ways
 // out, so that at most two paths of half that amount can follow for each cell: for n cells, and a need below 2 ^ 41, there are
 // at most 2 * n * 41 paths.
-pub(crate) fn trial(
-    relations: usize,
-    leaves: &[usize],
-    enters: &[usize],
+fn try_cell(
+    network: &Network,
     rows: &[Row],
-    marks: &mut [u8],
+    covers: &mut [Cover],
     table: &mut [u64],
-    layer: &mut [usize],
-    via: &mut [usize],
+    reached: &mut [Option<Reach>],
     side: Side,
     cell: usize,
 ) -> bool
-    requires sizes { (length enters.now ≡ length leaves.now) × (length rows.now ≡ length leaves.now) × (length marks.old ≡ length leaves.now) × (length table.old ≡ length leaves.now) × (length layer.old ≡ relations) × (length via.old ≡ relations) × (cell < length leaves.now) }
-    requires sound { Sound (arcs relations leaves.now enters.now) }
-    requires withheld { withheld_by marks.old cell ≡ true }
-    requires balanced { Balanced (arcs relations leaves.now enters.now) (figures rows.now) }
-    requires fits { (c : ℕ) → c < length rows.now → figures rows.now c + needs rows.now cell < 2 ^ 64 }
-    requires within { needs rows.now cell ≤ figures rows.now cell }
-    ensures kept { marks.new ≡ marks.old }
-    ensures told { result ≡ is_exposed (arcs relations leaves.now enters.now) (withheld_by marks.old) (figures rows.now) (needs rows.now cell) cell side }
-    ensures shown { result ≡ false → Witness (arcs relations leaves.now enters.now) (withheld_by marks.old) (figures rows.now) (needs rows.now cell) cell side (at table.new) }
+    requires tabled { Tabled network.now rows.now }
+    requires sizes { (length covers.old ≡ length rows.now) × (length table.old ≡ length rows.now) × (length reached.old ≡ network.now.relations) × (cell < length rows.now) }
+    requires withheld { withheld_by covers.old cell ≡ true }
+    ensures kept { covers.new ≡ covers.old }
+    ensures tried { Tried (looked_at (shape_of network.now) rows.now) (withheld_by covers.old) cell side result (at table.new) }
 {
-    let saved = bar(marks, cell);
-    let guard = Barred { marks, cell, saved };
+    let saved = mem::replace(&mut covers[cell], Cover::Barred);
+    let guard = Barred {
+        covers,
+        cell,
+        saved,
+    };
     copy_figures(rows, table);
-    let need = need_of(rows, cell);
-    let mut left = need;
-    let mut amount = need;
+    let mut left = rows[cell].need;
+    let mut amount = left;
     while left > 0 {
-        if change(
-            relations,
-            leaves,
-            enters,
-            guard.view(),
-            table,
-            layer,
-            via,
-            side,
-            amount,
-            cell,
-        ) {
+        if change(network, guard.view(), table, reached, side, amount, cell) {
             left -= amount;
             if amount > left {
                 amount = left;
@@ -126,4 +93,34 @@ pub(crate) fn trial(
         }
     }
     false
+}
+
+// The same on a bench.
+pub(crate) fn trial(
+    network: &Network,
+    rows: &[Row],
+    bench: &mut Bench,
+    side: Side,
+    cell: usize,
+) -> bool
+    requires lent { Lent network.now rows.now bench.old }
+    requires sensitive { (cell < length rows.now) × (0 < needs rows.now cell) }
+    ensures lent { Lent network.now rows.now bench.new }
+    ensures kept { bench.new.covers.items ≡ bench.old.covers.items }
+    ensures tried { Tried (looked_at (shape_of network.now) rows.now) (withheld_by bench.old.covers.items) cell side result (at bench.new.table.items) }
+{
+    let Bench {
+        covers,
+        table,
+        reached,
+    } = bench;
+    try_cell(
+        network,
+        rows,
+        covers.as_mut_slice(),
+        table.as_mut_slice(),
+        reached.as_mut_slice(),
+        side,
+        cell,
+    )
 }

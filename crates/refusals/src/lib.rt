@@ -9,31 +9,33 @@ use std::alloc::{AllocError, AllocFailed};
 use std::fmt;
 
 // The side on which a cell is tried: above its true figure, or below it.
-#[derive(Clone, Copy, Debug)]
+#[derive(Clone, Copy, Debug, PartialEq, Eq)]
 pub enum Side {
     Up,
     Down,
 }
 
-impl Side {
-    pub fn number(self) -> usize
-        ensures { result ≡ side_number self }
-    {
-        match self {
-            Side::Up => 1,
-            Side::Down => 2,
-        }
-    }
+// 1 is up, and any other number counts as down.
+impl From<usize> for Side {
+    ghost from_gives = { λ n s. s ≡ side_of n };
 
-    // 1 is up, and any other number counts as down.
-    pub fn of(number: usize) -> Side
-        ensures { result ≡ side_of number }
-    {
+    fn from(number: usize) -> Side {
         if number == 1 { Side::Up } else { Side::Down }
     }
 }
 
-#[derive(Clone, Copy, Debug)]
+impl From<Side> for usize {
+    ghost from_gives = { λ s n. n ≡ side_number s };
+
+    fn from(side: Side) -> usize {
+        match side {
+            Side::Up => 1,
+            Side::Down => 2,
+        }
+    }
+}
+
+#[derive(Clone, Copy, Debug, PartialEq, Eq)]
 pub enum Refusal {
     // a layout's size is outside its range
     LayoutSize,
@@ -99,30 +101,30 @@ impl Refusal {
         }
     }
 
-    // The cell that is named, or 0.
-    pub fn cell(self) -> usize
+    // The cell that is named.
+    pub fn cell(self) -> Option<usize>
         ensures { result ≡ (line self).cell }
     {
         match self {
-            Refusal::UnknownCell { cell } => cell,
-            Refusal::NotALeaf { cell } => cell,
-            Refusal::AlreadyPrinted { cell } => cell,
-            Refusal::NotSensitive { cell } => cell,
-            Refusal::AmountTooLarge { cell } => cell,
-            Refusal::Exposed { cell, side: _ } => cell,
-            Refusal::LinkTooLarge { cell } => cell,
-            Refusal::RecordReached { cell } => cell,
-            _ => 0,
+            Refusal::UnknownCell { cell }
+            | Refusal::NotALeaf { cell }
+            | Refusal::AlreadyPrinted { cell }
+            | Refusal::NotSensitive { cell }
+            | Refusal::AmountTooLarge { cell }
+            | Refusal::Exposed { cell, side: _ }
+            | Refusal::LinkTooLarge { cell }
+            | Refusal::RecordReached { cell } => Some(cell),
+            _ => None,
         }
     }
 
-    // The number of the side that is named, or 0.
-    pub fn side(self) -> usize
+    // The side that is named.
+    pub fn side(self) -> Option<Side>
         ensures { result ≡ (line self).side }
     {
         match self {
-            Refusal::Exposed { cell: _, side } => side.number(),
-            _ => 0,
+            Refusal::Exposed { cell: _, side } => Some(side),
+            _ => None,
         }
     }
 }
@@ -133,8 +135,8 @@ impl fmt::Display for Refusal {
 
     fn fmt<W: fmt::Write>(&self, f: &mut fmt::Formatter<W>) -> fmt::Result {
         let number = self.number();
-        let cell = self.cell();
-        let side = self.side();
+        let cell = self.cell().unwrap_or(0);
+        let side = self.side().map_or(0, usize::from);
         write!(f, "refused {number} cell {cell} side {side}")
     }
 }

@@ -2,4 +2,3 @@ pub mod Descending
 pub mod NeedLaws
 pub mod Falling
 pub mod Adding
-pub mod Answering

@@ -22,7 +22,7 @@ impl NK {
         ensures range { is_ok result ≡ nk_range n k }
         ensures made { MatchResult result (λ m. (m.n ≡ n) × (m.k ≡ k) × Told m.told []) (λ e. e ≡ RuleRange) }
     {
-        if n < 1 || n > 3 || k < 50 || k > 99 {
+        if !(1..=3).contains(&n) || !(50..=99).contains(&k) {
             return Err(Refusal::RuleRange);
         }
         Ok(NK {
@@ -53,7 +53,7 @@ impl Rule for NK {
     fn need(&self) -> u64 {
         let largest = 100 * self.told.of_largest(self.n);
         if self.k * self.told.total < largest {
-            (largest + (self.k - 1)) / self.k - self.told.total
+            largest.div_ceil(self.k) - self.told.total
         } else {
             0
         }

@@ -21,7 +21,7 @@ impl PPercent {
         ensures range { is_ok result ≡ p_range percent }
         ensures made { MatchResult result (λ m. (m.percent ≡ percent) × Told m.told []) (λ e. e ≡ RuleRange) }
     {
-        if percent < 1 || percent > 100 {
+        if !(1..=100).contains(&percent) {
             return Err(Refusal::RuleRange);
         }
         Ok(PPercent {
@@ -52,7 +52,7 @@ impl Rule for PPercent {
         let most = self.percent * self.told.first;
         let least = 100 * self.told.remainder();
         if least < most {
-            (most - least + 99) / 100
+            (most - least).div_ceil(100)
         } else {
             0
         }

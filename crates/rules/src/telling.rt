@@ -12,6 +12,19 @@ pub const LARGEST_AMOUNT: u64 = 1_000_000_000;
 
 pub const MOST_CONTRIBUTIONS: usize = 2_048;
 
+// Whether a rule takes the amount, after so many others.
+pub fn verdict(amount: u64, count: usize) -> Result<(), Refusal>
+    ensures { result ≡ verdict amount count }
+{
+    if amount > LARGEST_AMOUNT {
+        return Err(Refusal::AmountTooLarge { cell: 0 });
+    }
+    if count >= MOST_CONTRIBUTIONS {
+        return Err(Refusal::TooManyContributions);
+    }
+    Ok(())
+}
+
 impl Summary {
     pub fn empty() -> Summary
         ensures { Told result [] }
@@ -30,12 +43,7 @@ impl Summary {
         ensures refused { (xs : List ℕ) → Told self.old xs → result ≡ verdict amount (length xs) }
         ensures stands { (xs : List ℕ) → Told self.old xs → Told self.new (after result xs amount) }
     {
-        if amount > LARGEST_AMOUNT {
-            return Err(Refusal::AmountTooLarge { cell: 0 });
-        }
-        if self.count >= MOST_CONTRIBUTIONS {
-            return Err(Refusal::TooManyContributions);
-        }
+        verdict(amount, self.count)?;
         let past_first = amount.min(self.first);
         let past_second = past_first.min(self.second);
         *self = Summary {

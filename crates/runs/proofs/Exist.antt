@@ -1,5 +1,5 @@
 -- For every list of acts there is a run.
-use Rattle.std.proofs.Common.{◌≡◌, ℕ, ◌<◌, ◌≤◌, Bool, true, false, cond, not, eqb, ltb, leb, List, [], ◌∷◌, map, get_or, Some, None, sym, refl, ap, ◌∙◌, arith}
+use Rattle.std.proofs.Common.{◌≡◌, ℕ, ◌<◌, ◌≤◌, Bool, true, false, cond, not, ltb, leb, List, [], ◌∷◌, map, get_or, Some, None, refl, ap, arith}
 use Rattle.std.specs.List.{range_with_len}
 use Rattle.std.proofs.lemmas.List.FromFn.{length-map-range_with_len, get_or-map-range_with_len}
 use Rattle.std.proofs.lemmas.Bool.{leb-false, not-false}
@@ -7,28 +7,16 @@ use Rattle.refusals.specs.declared.Side.{Side}
 use Rattle.refusals.specs.declared.Side.TheVariants.{Up, Down}
 use Rattle.refusals.specs.declared.Refusal.TheVariants.{MemorySize, UnknownCell, NotSensitive, Exposed}
 use Rattle.refusals.specs.Refusals.{side_of}
-use Rattle.sums.proofs.SumBelow.{sum_same}
-use Rattle.layouts.specs.Shape.{Shape}
-use Rattle.readings.specs.Balance.{Balanced}
-use Rattle.readings.specs.Readings.{Reading}
+use Rattle.readings.specs.Readings.{Witness}
+use Rattle.readings.proofs.Written.{witness_same}
 use Rattle.readings.specs.Exposure.{Figures, sensitive, is_exposed}
 use Rattle.readings.specs.Theorems.{Room, Hidden}
 use Rattle.readings.proofs.Walls.{walls_tell_lem}
-use Rattle.runs.specs.Acts.{Act, withhold, seek, print, witness, Answer, refused, table, Standing, withheld, Away, Witnesses, WitnessAnswer, Right}
+use Rattle.runs.specs.Acts.{Act, withhold, seek, print, witness, Answer, refused, table, Standing, withheld, Witnesses, WitnessAnswer, Right}
 use Rattle.runs.specs.Runs.{standing}
 use Rattle.runs.specs.Pairs.{Settled}
 use Rattle.runs.specs.Law.{EveryListRuns}
-use Rattle.runs.proofs.Hiding.{hidden_parts, fit}
-
-balanced_same : (sh : Shape) (t u : ℕ → ℕ) → ((c : ℕ) → c < sh.cells → t c ≡ u c) → Balanced sh u → Balanced sh t
-balanced_same sh t u same bal r l =
-    sum_same sh.cells _ _ (λ c m. ap (λ x. cond (eqb (sh.enters c) r) x 0) (same c m))
-    ∙ bal r l
-    ∙ sum_same sh.cells _ _ (λ c m. ap (λ x. cond (eqb (sh.leaves c) r) x 0) (sym (same c m)))
-
-away_same : (F : Figures) (side : Side) (c : ℕ) (t u : ℕ → ℕ) → t c ≡ u c → Away F side c u → Away F side c t
-away_same F Up c t u e far = omega arith
-away_same F Down c t u e far = omega arith
+use Rattle.runs.proofs.Hiding.{fit}
 
 room : (F : Figures) (c : ℕ) (side : Side) → F.need c ≤ F.figure c → Room F.figure (F.need c) c side
 room F c Up l = tt
@@ -39,24 +27,17 @@ module _ (F : Figures) (ok : Settled F) (st : Standing) where
   hidden_witnesses : (c : ℕ) (side : Side) → c < F.shape.cells → Hidden F (withheld F st) c side → (figures : List ℕ) × Witnesses F st c side figures
   hidden_witnesses c side l far = (
     listed,
-    record {
-      each = length-map-range_with_len t.0 0 F.shape.cells;
-      reading = record {
-        balanced = balanced_same F.shape (λ x. get_or listed x 0) t.0 same t.1.balanced;
-        true_figures = λ x m e. same x m ∙ t.1.true_figures x m e;
-      };
-      far = away_same F side c (λ x. get_or listed x 0) t.0 (same c l) t.2;
-    },
+    record { each = length-map-range_with_len far.0 0 F.shape.cells; reading = w.reading; far = w.away },
   )
     where
-      t : (y : ℕ → ℕ) × Reading F.shape (withheld F st) F.figure y × Away F side c y
-      t = hidden_parts F (withheld F st) c side far
-
       listed : List ℕ
-      listed = map t.0 (range_with_len 0 F.shape.cells)
+      listed = map far.0 (range_with_len 0 F.shape.cells)
 
-      same : (x : ℕ) → x < F.shape.cells → get_or listed x 0 ≡ t.0 x
-      same x m = get_or-map-range_with_len t.0 0 F.shape.cells x x 0 m (omega arith)
+      same : (x : ℕ) → x < F.shape.cells → get_or listed x 0 ≡ far.0 x
+      same x m = get_or-map-range_with_len far.0 0 F.shape.cells x x 0 m (omega arith)
+
+      w : Witness F.shape (withheld F st) F.figure (F.need c) c side (λ x. get_or listed x 0)
+      w = witness_same F.shape (withheld F st) F.figure (F.need c) c side far.0 (λ x. get_or listed x 0) l same far.1
 
   right_answer : (act : Act) → (a : Answer) × Right F st act a
   right_answer (withhold cs) = (_, refl)

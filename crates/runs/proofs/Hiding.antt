@@ -7,11 +7,11 @@ use Rattle.sums.specs.Sums.{sum_below}
 use Rattle.sums.proofs.SumBelow.{sum_same, sum_scale}
 use Rattle.layouts.specs.Shape.{Shape}
 use Rattle.readings.specs.Balance.{Balanced}
-use Rattle.readings.specs.Readings.{Reading, Withholds}
+use Rattle.readings.specs.Readings.{Away, Reading, Withholds}
 use Rattle.readings.specs.Exposure.{Figures, sensitive, audit}
 use Rattle.readings.specs.Theorems.{Fit, Hidden, Safe, Told}
 use Rattle.readings.proofs.Audits.{audit_right_lem}
-use Rattle.runs.specs.Acts.{Standing, withheld, Away}
+use Rattle.runs.specs.Acts.{Standing, withheld}
 use Rattle.runs.specs.Pairs.{Settled, Sensitive}
 
 -- MORE WITHHELD, MORE READINGS
@@ -40,13 +40,11 @@ exposes_less F less more sub (c, side, told) = (
 )
 
 -- A READING FAR AWAY, BY ITS PARTS
-pub hidden_parts : (F : Figures) (W : ℕ → Bool) (c : ℕ) (side : Side) → Hidden F W c side → (t : ℕ → ℕ) × Reading F.shape W F.figure t × Away F side c t
-hidden_parts F W c Up (y, w) = (y, w.reading, w.away)
-hidden_parts F W c Down (y, w) = (y, w.reading, w.away)
+pub hidden_parts : (F : Figures) (W : ℕ → Bool) (c : ℕ) (side : Side) → Hidden F W c side → (t : ℕ → ℕ) × Reading F.shape W F.figure t × Away side (F.need c) (F.figure c) (t c)
+hidden_parts F W c side (y, w) = (y, w.reading, w.away)
 
-pub parts_hidden : (F : Figures) (W : ℕ → Bool) (c : ℕ) (side : Side) (t : ℕ → ℕ) → Reading F.shape W F.figure t → Away F side c t → Hidden F W c side
-parts_hidden F W c Up t r far = (t, record { reading = r; away = far })
-parts_hidden F W c Down t r far = (t, record { reading = r; away = far })
+pub parts_hidden : (F : Figures) (W : ℕ → Bool) (c : ℕ) (side : Side) (t : ℕ → ℕ) → Reading F.shape W F.figure t → Away side (F.need c) (F.figure c) (t c) → Hidden F W c side
+parts_hidden F W c side t r far = (t, record { reading = r; away = far })
 
 pub sensitive_test : (F : Figures) (c : ℕ) → Sensitive F c → sensitive F.need c ≡ true
 sensitive_test F c s = lt-ltb 0 (F.need c) s.has_need

@@ -1,13 +1,12 @@
 -- The acts of an office on a sheet: why each is refused, the standing of the cells that it leads to, and its right answer.
-use Rattle.std.specs.Prelude.{◌≡◌, ℕ, zero, suc, ◌+◌, ◌*◌, ◌≤◌, Bool, false, cond, not, ◌&&◌, ◌||◌, List, [], ◌∷◌, length, is_some, Some, None, Option, ◌==◌, nat_le, nat_lt, slice_index}
+use Rattle.std.specs.Prelude.{◌≡◌, ℕ, zero, suc, ◌*◌, Bool, false, cond, not, ◌&&◌, ◌||◌, List, [], ◌∷◌, length, is_some, Some, None, Option, ◌==◌, nat_le, nat_lt, slice_index}
 use Rattle.refusals.specs.declared.Side.{Side}
-use Rattle.refusals.specs.declared.Side.TheVariants.{Up, Down}
 use Rattle.refusals.specs.declared.Refusal.{Refusal}
 use Rattle.refusals.specs.declared.Refusal.TheVariants.{MemorySize, UnknownCell, AlreadyPrinted, NotSensitive, Exposed}
 use Rattle.refusals.specs.Refusals.{side_of}
 use Rattle.sums.specs.Sums.{count_below, among}
 use Rattle.page.specs.Page.{page as bytes}
-use Rattle.readings.specs.Readings.{Reading}
+use Rattle.readings.specs.Readings.{Away, Reading}
 use Rattle.readings.specs.Exposure.{Figures, sensitive, is_exposed, audit}
 
 -- Memory is counted in bytes for a print, and in figures for a witness; a witness asks for its side by a number.
@@ -116,16 +115,11 @@ module _ (F : Figures) where
   abbrev pub added : Standing → ℕ
   added st = count_below F.shape.cells (λ c. (searched st).complement c && not (st.complement c))
 
-  -- at the cell c, the table is as far from the true figure as the need asks, on that side
-  abbrev pub Away : Side → ℕ → (ℕ → ℕ) → Type 0
-  Away Up c t = F.figure c + F.need c ≤ t c
-  Away Down c t = t c + F.need c ≤ F.figure c
-
-  -- A witness: any reading, with a figure for each cell, that is far enough on its side.
+  -- A witness: any reading, with a figure for each cell, that is as far from the true figure of c as the need asks, on that side.
   pub record Witnesses (st : Standing) (c : ℕ) (side : Side) (figures : List ℕ) : Type 0 where
     pub each : length figures ≡ F.shape.cells
     pub reading : Reading F.shape (withheld st) F.figure (λ x. slice_index figures x)
-    pub far : Away side c (λ x. slice_index figures x)
+    pub far : Away side (F.need c) (F.figure c) (slice_index figures c)
 
 abbrev pub unless : Option Refusal → Answer → Answer
 unless (Some r) a = refused r

@@ -4,8 +4,8 @@ use Rattle.refusals.specs.declared.Side.{Side}
 use Rattle.refusals.specs.declared.Side.TheVariants.{Up, Down}
 use Rattle.page.specs.Page.{spells}
 use Rattle.readings.specs.Balance.{Balanced, Sound}
+use Rattle.readings.specs.Readings.{Away}
 use Rattle.readings.specs.Exposure.{Figures}
-use Rattle.runs.specs.Acts.{Away}
 
 -- What settling hands over: balanced figures that fit a page, over a layout of at most 512 cells whose relations exist, and no need above its figure.
 pub record Settled (F : Figures) : Type 0 where
@@ -33,7 +33,7 @@ module _ (F : Figures) where
   pub record Shows (ps : List (List ℕ)) (side : Side) (c : ℕ) (t : ℕ → ℕ) : Type 0 where
     pub balanced : Balanced F.shape t
     pub fits : AgreesAll t ps
-    pub far : Away F side c t
+    pub far : Away side (F.need c) (F.figure c) (t c)
 
   -- such a table above the true figure, and one below it
   abbrev pub Pair : List (List ℕ) → ℕ → Type 0

@@ -1,5 +1,5 @@
--- From digits to numbers, to one text after another, to a text under a word, to the whole line.
+-- From digits to numbers, to a text under a word, to the whole line.
 pub mod Digits
-pub mod Texts
+pub mod Numerals
 pub mod Words
 pub mod Lines

@@ -1,4 +1,4 @@
--- The grammar of the settings line first, then what it is to read it.
+-- The grammar of the settings line first, then what it is to read it, and the layout that it asks for.
 pub mod Line
-pub mod Scan
 pub mod Reading
+pub mod Asked

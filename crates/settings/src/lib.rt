@@ -7,17 +7,20 @@ ghost use Rattle.settings.specs.Reading.{Exactly, ReadsSettings};
 use refusals::Refusal;
 
 mod choices;
-mod numbers;
+pub mod numbers;
 
 pub use choices::{LayoutSetting, RuleSetting, Settings};
-use numbers::{read_number, read_pair};
+use numbers::{Ending, read_number, read_pair};
+
+// The numbers of a line have at most four digits.
+const LARGEST_NUMBER: u32 = 9_999;
 
 fn read_layout(bytes: &[u8]) -> Option<(LayoutSetting, &[u8])>
     ensures { Exactly ShortLayout layout_text bytes.now result }
 {
     match bytes {
         [b'g', b'r', b'i', b'd', b' ', rest @ ..] => {
-            let ((rows, columns), rest) = read_pair(rest, b' ')?;
+            let ((rows, columns), rest) = read_pair(rest, Ending::Blank, LARGEST_NUMBER).ok()?;
             Some((
                 LayoutSetting::Grid {
                     rows: rows as usize,
@@ -27,7 +30,7 @@ fn read_layout(bytes: &[u8]) -> Option<(LayoutSetting, &[u8])>
             ))
         }
         [b'l', b'i', b's', b't', b' ', rest @ ..] => {
-            let (leaves, rest) = read_number(rest, b' ')?;
+            let (leaves, rest) = read_number(rest, Ending::Blank, LARGEST_NUMBER).ok()?;
             Some((
                 LayoutSetting::List {
                     leaves: leaves as usize,
@@ -44,20 +47,20 @@ fn read_rule(bytes: &[u8]) -> Option<(RuleSetting, &[u8])>
 {
     match bytes {
         [b'p', b' ', rest @ ..] => {
-            let (percent, rest) = read_number(rest, b'\n')?;
+            let (percent, rest) = read_number(rest, Ending::Newline, LARGEST_NUMBER).ok()?;
             Some((
                 RuleSetting::P {
-                    percent: percent as u64,
+                    percent: u64::from(percent),
                 },
                 rest,
             ))
         }
         [b'n', b'k', b' ', rest @ ..] => {
-            let ((n, k), rest) = read_pair(rest, b'\n')?;
+            let ((n, k), rest) = read_pair(rest, Ending::Newline, LARGEST_NUMBER).ok()?;
             Some((
                 RuleSetting::Nk {
-                    n: n as u64,
-                    k: k as u64,
+                    n: u64::from(n),
+                    k: u64::from(k),
                 },
                 rest,
             ))
@@ -79,10 +82,7 @@ pub fn read_settings(input: &[u8]) -> Result<(Settings, &[u8]), Refusal>
     ensures reads { ReadsSettings input.now result }
     ensures short { ShortLine }
 {
-    match read_line(input) {
-        Some((settings, rest)) => Ok((settings, rest)),
-        None => Err(Refusal::SettingsForm),
-    }
+    read_line(input).ok_or(Refusal::SettingsForm)
 }
 
 #[cfg(test)]
@@ -93,17 +93,15 @@ mod tests {
     #[test]
     fn a_grid_with_what_follows(rt: HostRuntime) -> Result<(), Fail> {
         let (settings, rest) = read_settings(b"grid 2 2 nk 2 80\nmore")?;
-        let LayoutSetting::Grid {
-            rows: 2,
-            columns: 2,
-        } = settings.layout
-        else {
-            return Err(Fail::new("layout"));
-        };
-        let RuleSetting::Nk { n: 2, k: 80 } = settings.rule else {
-            return Err(Fail::new("rule"));
-        };
-        assert!(rt; rest == b"more".as_slice());
+        assert_eq!(rt;
+            settings.layout,
+            LayoutSetting::Grid {
+                rows: 2,
+                columns: 2
+            }
+        );
+        assert_eq!(rt; settings.rule, RuleSetting::Nk { n: 2, k: 80 });
+        assert_eq!(rt; rest, b"more".as_slice());
         Ok(())
     }
 

@@ -1,42 +1,95 @@
-// Numbers of one to four digits, each with the byte that ends it.
-ghost use Rattle.std.specs.Prelude.{◌<◌};
-ghost use Rattle.settings.specs.Line.{number_text, pair_text, Short, ShortPair};
-ghost use Rattle.settings.specs.Reading.{Exactly};
-ghost use Rattle.settings.specs.Scan.{Scanned};
+// Decimal numbers up to a greatest, each with the byte that ends it.
+ghost use Rattle.std.specs.Prelude.{◌≡◌};
+ghost use Rattle.settings.specs.Line.{byte_of, number_text, pair_text, UpTo, PairUpTo};
+ghost use Rattle.settings.specs.Reading.{Reads, NumberWrong, PairWrong};
 
-// The number that the bytes begin with, and where its digits end, if the byte there is `end`.
-fn scan_number(bytes: &[u8], end: u8) -> Option<(u16, usize)>
-    requires { end < 48 }
-    ensures { Scanned bytes.now end result }
-{
-    let mut number: u16 = 0;
-    for (i, b) in bytes.iter().enumerate() {
-        if *b == end && i > 0 {
-            return Some((number, i));
-        }
-        if *b < b'0' || *b > b'9' || i == 4 || (i == 1 && bytes[0] == b'0') {
-            return None;
-        }
-        number = number * 10 + (*b - b'0') as u16;
-    }
-    None
+// What ends a number.
+#[derive(Clone, Copy, Debug, PartialEq, Eq)]
+pub enum Ending {
+    Blank,
+    Newline,
 }
 
-// A number and the byte that ends it, and the rest.
-pub(crate) fn read_number(bytes: &[u8], end: u8) -> Option<(u16, &[u8])>
-    requires { end < 48 }
-    ensures { Exactly Short (number_text end) bytes.now result }
+impl Ending {
+    fn byte(self) -> u8
+        ensures { result ≡ byte_of self }
+    {
+        match self {
+            Ending::Blank => b' ',
+            Ending::Newline => b'\n',
+        }
+    }
+}
+
+#[derive(Clone, Copy, Debug, PartialEq, Eq)]
+pub enum NumberFault {
+    // no number, or something else than the ending after it
+    Form,
+    // a number above the greatest
+    TooLarge,
+}
+
+// A number and what ends it, and the rest.
+pub fn read_number(bytes: &[u8], end: Ending, greatest: u32) -> Result<(u32, &[u8]), NumberFault>
+    ensures { Reads (UpTo greatest) (number_text end) bytes.now (NumberWrong greatest) result }
 {
-    let (number, at) = scan_number(bytes, end)?;
-    Some((number, &bytes[at + 1..]))
+    let end = end.byte();
+    let mut number: u64 = 0;
+    for (i, b) in bytes.iter().enumerate() {
+        if *b == end && i > 0 {
+            return Ok((number as u32, &bytes[i + 1..]));
+        }
+        if !b.is_ascii_digit() || (i > 0 && number == 0) {
+            return Err(NumberFault::Form);
+        }
+        number = number * 10 + u64::from(*b - b'0');
+        if number > u64::from(greatest) {
+            return Err(NumberFault::TooLarge);
+        }
+    }
+    Err(NumberFault::Form)
 }
 
 // Two numbers, a blank between them.
-pub(crate) fn read_pair(bytes: &[u8], end: u8) -> Option<((u16, u16), &[u8])>
-    requires { end < 48 }
-    ensures { Exactly ShortPair (pair_text end) bytes.now result }
+pub(crate) fn read_pair(
+    bytes: &[u8],
+    end: Ending,
+    greatest: u32,
+) -> Result<((u32, u32), &[u8]), NumberFault>
+    ensures { Reads (PairUpTo greatest) (pair_text end) bytes.now (PairWrong greatest) result }
 {
-    let (first, rest) = read_number(bytes, b' ')?;
-    let (second, rest) = read_number(rest, end)?;
-    Some(((first, second), rest))
+    let (first, rest) = read_number(bytes, Ending::Blank, greatest)?;
+    let (second, rest) = read_number(rest, end, greatest)?;
+    Ok(((first, second), rest))
+}
+
+#[cfg(test)]
+mod tests {
+    use super::*;
+    use std::test::Fail;
+
+    #[test]
+    fn numbers_with_what_follows(rt: HostRuntime) -> Result<(), Fail> {
+        let (number, rest) = read_number(b"4294967295 7", Ending::Blank, u32::MAX)?;
+        assert_eq!(rt; number, 4_294_967_295);
+        assert_eq!(rt; rest, b"7".as_slice());
+        let ((n, k), rest) = read_pair(b"0 99\n", Ending::Newline, 99)?;
+        assert_eq!(rt; n, 0);
+        assert_eq!(rt; k, 99);
+        assert_eq!(rt; rest, b"".as_slice());
+        Ok(())
+    }
+
+    #[test]
+    fn what_is_wrong(rt: HostRuntime) {
+        for (bytes, fault) in [
+            (b"100 ", NumberFault::TooLarge),
+            (b"100x", NumberFault::TooLarge),
+            (b"099 ", NumberFault::Form),
+            (b"99  ", NumberFault::Form),
+            (b"99x ", NumberFault::Form),
+        ] {
+            assert_eq!(rt; read_number(bytes, Ending::Newline, 99).err(), Some(fault));
+        }
+    }
 }

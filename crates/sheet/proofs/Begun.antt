@@ -1,6 +1,5 @@
 -- How a settled table stands: open, or sensitive where the need is above 0.
 use Rattle.std.proofs.Common.{◌≡◌, ℕ, ◌<◌, ◌≤◌, Bool, true, false, cond, not, ltb, List, map, length, refl, ap, inl, inr}
-use mathlib.Core.Path.{fun_ext}
 use lib.ListN.{length-map}
 use Rattle.std.proofs.lemmas.List.{get_or_past}
 use Rattle.std.proofs.lemmas.Bool.{cases_lt, false≢true}
@@ -45,7 +44,7 @@ first_bare need m h = go (ltb 0 need) m h
     go false Printed h = absurd (false≢true h)
 
 pub begun_fresh : (rows : List Row) → ((c : ℕ) → c < length rows → same_mark (mark_at rows c) (first_mark (needs rows c)) ≡ true) → standing_of rows ≡ fresh
-begun_fresh rows begun = λ i. record { complement = fun_ext (λ c. (at c).0) i; printed = fun_ext (λ c. (at c).1) i }
+begun_fresh rows begun = λ i. record { complement = λ c. (at c).0 i; printed = λ c. (at c).1 i }
   where
     at : (c : ℕ) → (is_complement_mark (mark_at rows c) ≡ false) × (is_printed_mark (mark_at rows c) ≡ false)
     at c = elim (cases_lt c (length rows)) [

@@ -1,31 +1,28 @@
 -- A witness that the engine has written is one of the sheet as it stands.
-use Rattle.std.proofs.Common.{◌≡◌, ℕ, ◌+◌, ◌-◌, ◌<◌, ◌≤◌, Bool, true, false, cond, not, ◌&&◌, eqb, ltb, leb, List, length, get_or, take, drop, is_ok, Some, None, Ok, Err, vec_items, Option, Result, sym, refl, ap, ◌∙◌, subst, inl, inr, arith, length-drop}
+use Rattle.std.proofs.Common.{◌≡◌, ℕ, ◌+◌, ◌-◌, ◌<◌, ◌≤◌, Bool, true, false, cond, not, ◌&&◌, ltb, leb, List, length, get_or, take, drop, is_ok, Some, None, Ok, Err, vec_items, Option, Result, sym, refl, ap, ◌∙◌, subst, inl, inr, arith, length-drop}
 use Rattle.std.proofs.lemmas.List.{get_or-take, get_or-drop, length-take-le, ext_get_or}
 use Rattle.std.proofs.lemmas.Bool.{cases_lt, lt-ltb, le-ltb, le-leb, lt-leb, ltb-false, leb-false}
 use Rattle.refusals.specs.declared.Side.{Side}
-use Rattle.refusals.specs.declared.Side.TheVariants.{Up, Down}
 use Rattle.refusals.specs.declared.Refusal.{Refusal}
 use Rattle.refusals.specs.declared.Refusal.TheVariants.{UnknownCell, NotSensitive, MemorySize, Exposed}
 use Rattle.refusals.specs.Refusals.{side_of}
-use Rattle.sums.proofs.SumBelow.{sum_same}
 use Rattle.layouts.specs.Admission.{shape_of}
-use Rattle.layouts.specs.Shape.{Shape}
+use Rattle.layouts.specs.declared.memory.Cover.TheVariants.{Shown}
 use Rattle.layouts.specs.declared.memory.Row.{Row}
-use Rattle.readings.specs.Balance.{Balanced}
 use Rattle.readings.specs.Exposure.{Figures, sensitive, is_exposed}
 use Rattle.readings.specs.Paths.{withheld_by}
-use Rattle.readings.specs.Readings as readings
 use Rattle.readings.specs.Readings.{Witness}
 use Rattle.readings.specs.Rows.{figures, needs, looked_at}
 use Rattle.readings.specs.Witnesses.{witness_answer}
-use Rattle.runs.specs.Acts.{Standing, withheld, witness, refusal, Away, Witnesses, WitnessAnswer, step}
+use Rattle.readings.proofs.Written.{witness_same}
+use Rattle.runs.specs.Acts.{Standing, withheld, witness, refusal, Witnesses, WitnessAnswer, step}
 use Rattle.sheet.specs.declared.held.Sheet.{Sheet}
 use Rattle.sheet.specs.Calls.{tabled, answered}
 use Rattle.sheet.specs.Sheets.{figures_of, stands, rows_of, Acted}
 use Rattle.sheet.specs.Standing.{standing_of}
-use Rattle.sheet.specs.Trying.{bytes_of, SameTable}
+use Rattle.sheet.specs.Trying.{covers_of, SameTable}
 use Rattle.sheet.proofs.Facts.{rows_long, same_table_figures}
-use Rattle.sheet.proofs.Stood.{bytes_stood}
+use Rattle.sheet.proofs.Stood.{covers_stood}
 
 not_below : (c n : ℕ) → not (ltb c n) ≡ leb n c
 not_below c n = elim (cases_lt c n) [
@@ -38,15 +35,9 @@ module _ (F : Figures) (st : Standing) (c side memory : ℕ) where
   -- the engine refuses for the same reasons
   pub engine_answers : witness_answer F (withheld F st) c (side_of side) memory ≡ answered (refusal F st (witness c side memory)) F.shape.cells
   engine_answers =
-      ap (λ b. cond b (Err (UnknownCell c)) (rest (sensitive F.need c) (ltb memory F.shape.cells) (x (sensitive F.need c)))) (not_below c F.shape.cells)
-      ∙ go (leb F.shape.cells c) (sensitive F.need c) (ltb memory F.shape.cells) (is_exposed F.shape (withheld F st) F.figure (F.need c) c (side_of side))
+      rw (not_below c F.shape.cells)
+      (go (leb F.shape.cells c) (sensitive F.need c) (ltb memory F.shape.cells) (is_exposed F.shape (withheld F st) F.figure (F.need c) c (side_of side)))
     where
-      x : Bool → Bool
-      x s = s && is_exposed F.shape (withheld F st) F.figure (F.need c) c (side_of side)
-
-      rest : Bool → Bool → Bool → Result ℕ Refusal
-      rest s m e = cond (not s) (Err (NotSensitive c)) (cond m (Err MemorySize) (cond e (Err (Exposed c (side_of side))) (Ok F.shape.cells)))
-
       go : (b s m e : Bool)
           → cond b (Err (UnknownCell c)) (cond (not s) (Err (NotSensitive c)) (cond m (Err MemorySize) (cond (s && e) (Err (Exposed c (side_of side))) (Ok F.shape.cells))))
           ≡ answered (cond b (Some (UnknownCell c)) (cond (not s) (Some (NotSensitive c)) (cond m (Some MemorySize) (cond e (Some (Exposed c (side_of side))) None)))) F.shape.cells
@@ -64,37 +55,21 @@ module _ (F : Figures) (st : Standing) (c side memory : ℕ) where
           → cond b (Some (UnknownCell c)) (cond s (Some (NotSensitive c)) (cond m (Some MemorySize)
           (cond (is_exposed F.shape (withheld F st) F.figure (F.need c) c (side_of side)) (Some (Exposed c (side_of side))) None))) ≡ None
           → (c < F.shape.cells) × (F.shape.cells ≤ memory)
-      go true s m in_it is f = let z : ◌≡◌ {A = ℕ} 0 1 = cc in absurd (omega arith)
-      go false true m in_it is f = let z : ◌≡◌ {A = ℕ} 0 1 = cc in absurd (omega arith)
-      go false false true in_it is f = let z : ◌≡◌ {A = ℕ} 0 1 = cc in absurd (omega arith)
+      go true s m in_it is f = cc
+      go false true m in_it is f = cc
+      go false false true in_it is f = cc
       go false false false in_it is f = (leb-false F.shape.cells c in_it, ltb-false memory F.shape.cells is)
 
 -- THE TABLE
--- balance looks at the cells of the layout alone
-balanced_same : (sh : Shape) (y z : ℕ → ℕ) → ((c : ℕ) → c < sh.cells → z c ≡ y c) → Balanced sh y → Balanced sh z
-balanced_same sh y z same b r l =
-    sum_same sh.cells (λ c. cond (eqb (sh.enters c) r) (z c) 0) (λ c. cond (eqb (sh.enters c) r) (y c) 0) (λ c h. ap (λ v. cond (eqb (sh.enters c) r) v 0) (same c h))
-    ∙ b r l
-    ∙ sym (sum_same sh.cells (λ c. cond (eqb (sh.leaves c) r) (z c) 0) (λ c. cond (eqb (sh.leaves c) r) (y c) 0) (λ c h. ap (λ v. cond (eqb (sh.leaves c) r) v 0) (same c h)))
-
-away_same : (F : Figures) (side : Side) (c : ℕ) (y z : ℕ → ℕ) → z c ≡ y c → readings.Away side (F.need c) (F.figure c) (y c) → Away F side c z
-away_same F Up c y z e h = omega (arith, e, h)
-away_same F Down c y z e h = omega (arith, e, h)
-
 module _ (F : Figures) (st : Standing) (c : ℕ) (side : Side) (memory : List ℕ) (l : c < F.shape.cells) (room : F.shape.cells ≤ length memory)
     (w : Witness F.shape (withheld F st) F.figure (F.need c) c side (λ x. get_or memory x 0)) where
   front : (x : ℕ) → x < F.shape.cells → get_or (take F.shape.cells memory) x 0 ≡ get_or memory x 0
   front x h = get_or-take F.shape.cells memory x 0 h
 
   pub front_witnesses : Witnesses F st c side (take F.shape.cells memory)
-  front_witnesses = record {
-    each = length-take-le F.shape.cells memory room;
-    reading = record {
-      balanced = balanced_same F.shape (λ x. get_or memory x 0) (λ x. get_or (take F.shape.cells memory) x 0) front w.reading.balanced;
-      true_figures = λ x h e. front x h ∙ w.reading.true_figures x h e;
-    };
-    far = away_same F side c (λ x. get_or memory x 0) (λ x. get_or (take F.shape.cells memory) x 0) (front c l) w.away;
-  }
+  front_witnesses =
+      let v = witness_same F.shape (withheld F st) F.figure (F.need c) c side (λ x. get_or memory x 0) (λ x. get_or (take F.shape.cells memory) x 0) l front w in
+      record { each = length-take-le F.shape.cells memory room; reading = v.reading; far = v.away }
 
 -- THE CALL
 -- the answer is right, whether the witness is refused or not
@@ -109,8 +84,8 @@ witness_stays F st c side m (Ok n) memory = refl
 witness_stays F st c side m (Err e) memory = refl
 
 module _ (s t after : Sheet) (rows : List Row) (c side : ℕ) (asked : Side) (before memory : List ℕ) (r : Result ℕ Refusal)
-    (same : SameTable s t) (bytes : vec_items t.marks ≡ bytes_of 0 (rows_of s)) (lent : rows ≡ rows_of t) (side_is : asked ≡ side_of side)
-    (answer : r ≡ witness_answer (looked_at (shape_of t.network) rows) (withheld_by (vec_items t.marks)) c asked (length before)) where
+    (same : SameTable s t) (covers : vec_items t.bench.covers ≡ covers_of Shown (rows_of s)) (lent : rows ≡ rows_of t) (side_is : asked ≡ side_of side)
+    (answer : r ≡ witness_answer (looked_at (shape_of t.network) rows) (withheld_by (vec_items t.bench.covers)) c asked (length before)) where
   abbrev F : Figures
   F = figures_of s
 
@@ -123,13 +98,13 @@ module _ (s t after : Sheet) (rows : List Row) (c side : ℕ) (asked : Side) (be
   pub witness_answers : r ≡ answered (refusal F st (witness c side (length before))) F.shape.cells
   witness_answers =
       answer
-      ∙ ap (λ (G : Figures). witness_answer G (withheld_by (vec_items t.marks)) c asked (length before)) lent_figures
-      ∙ ap (λ (w : ℕ → Bool). witness_answer F w c asked (length before)) (bytes_stood s t same bytes)
+      ∙ ap (λ (G : Figures). witness_answer G (withheld_by (vec_items t.bench.covers)) c asked (length before)) lent_figures
+      ∙ ap (λ (w : ℕ → Bool). witness_answer F w c asked (length before)) (covers_stood s t same covers)
       ∙ ap (λ (d : Side). witness_answer F (withheld F st) c d (length before)) side_is
       ∙ engine_answers F st c side (length before)
 
   pub witness_acted : SameTable t after → length memory ≡ length before
-      → (is_ok r ≡ true → Witness (shape_of t.network) (withheld_by (vec_items t.marks)) (figures rows) (needs rows c) c asked (λ x. get_or memory x 0))
+      → (is_ok r ≡ true → Witness (shape_of t.network) (withheld_by (vec_items t.bench.covers)) (figures rows) (needs rows c) c asked (λ x. get_or memory x 0))
       → Acted s (witness c side (length before)) (tabled r memory) after
   witness_acted stays long written = record {
     does = record {
@@ -147,8 +122,8 @@ module _ (s t after : Sheet) (rows : List Row) (c side : ℕ) (asked : Side) (be
           let ok : is_ok r ≡ true = ap is_ok (witness_answers ∙ ap (λ (o : Option Refusal). answered o F.shape.cells) none) in
           front_witnesses F st c (side_of side) memory room.0 (omega (arith, long, room.1))
           (subst (λ (d : Side). Witness F.shape (withheld F st) F.figure (F.need c) c d (λ x. get_or memory x 0)) side_is
-          (subst (λ (w : ℕ → Bool). Witness F.shape w F.figure (F.need c) c asked (λ x. get_or memory x 0)) (bytes_stood s t same bytes)
-          (subst (λ (G : Figures). Witness G.shape (withheld_by (vec_items t.marks)) G.figure (G.need c) c asked (λ x. get_or memory x 0)) lent_figures (written ok))))
+          (subst (λ (w : ℕ → Bool). Witness F.shape w F.figure (F.need c) c asked (λ x. get_or memory x 0)) (covers_stood s t same covers)
+          (subst (λ (G : Figures). Witness G.shape (withheld_by (vec_items t.bench.covers)) G.figure (G.need c) c asked (λ x. get_or memory x 0)) lent_figures (written ok))))
 
   -- nothing beyond the cells is other than it was
   pub witness_beyond : length memory ≡ length before → ((x : ℕ) → length rows ≤ x → get_or memory x 0 ≡ get_or before x 0)

@@ -1,7 +1,6 @@
 pub mod Marking
 pub mod Begun
 pub mod Facts
-pub mod Lent
 pub mod Meetings
 pub mod Answering
 pub mod Entries

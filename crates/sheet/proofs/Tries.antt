@@ -1,68 +1,35 @@
 -- The search, one cell after another from the highest down.
-use Rattle.std.proofs.Common.{◌≡◌, ℕ, ◌+◌, ◌<◌, ◌≤◌, Bool, true, false, cond, not, ◌&&◌, ltb, ◌≢◌, List, length, get_or, set, is_some, vec_items, Option, sym, refl, ap, ◌∙◌, subst, add-one, arith}
+use Rattle.std.proofs.Common.{◌≡◌, ℕ, ◌+◌, ◌-◌, ◌<◌, ◌≤◌, Bool, true, false, cond, not, ◌&&◌, ltb, ◌≢◌, List, length, set, is_some, vec_items, sym, refl, ap, ◌∙◌, subst, add-one, arith}
 use mathlib.Core.Path.{fun_ext}
-use Rattle.std.proofs.lemmas.Bool.{eqb-true, or_left, lt-ltb}
-use Rattle.refusals.specs.declared.Side.{Side}
+use Rattle.std.proofs.Math.Bool.{and-not_self}
+use Rattle.std.proofs.lemmas.Bool.{or_left, lt-ltb}
 use Rattle.layouts.specs.Blank.{is_open_mark}
+use Rattle.layouts.specs.declared.memory.Cover.{Cover}
+use Rattle.layouts.specs.declared.memory.Cover.TheVariants.{Shown, Withheld}
 use Rattle.layouts.specs.declared.memory.Row.{Row}
 use Rattle.layouts.specs.declared.memory.Mark.TheVariants.{Open, Complement}
 use Rattle.sums.specs.Sums.{count_below}
 use Rattle.sums.proofs.SumBelow.{sum_but, sum_none, count_le}
 use Rattle.readings.specs.Exposure.{Figures, audit}
 use Rattle.readings.specs.Paths.{withheld_by}
-use Rattle.readings.specs.Rows.{figures, needs}
+use Rattle.readings.specs.Rows.{needs}
 use Rattle.intake.specs.Marks.{mark_at}
-use Rattle.runs.specs.Acts.{Standing, withheld, newly, opened, reopen, searched, added, seek, count}
+use Rattle.runs.specs.Acts.{Standing, withheld, newly, opened, reopen, searched, seek, count}
 use Rattle.sheet.specs.declared.held.Sheet.{Sheet}
 use Rattle.sheet.specs.declared.events.Event.TheVariants.{Added}
-use Rattle.sheet.specs.Cells.{row_at}
-use Rattle.sheet.specs.Events.{next_mark, met}
+use Rattle.sheet.specs.Events.{next_mark}
 use Rattle.sheet.specs.Standing.{is_complement_mark, standing_of}
 use Rattle.sheet.specs.Sheets.{rows_of, figures_of, stands, Acted}
-use Rattle.sheet.specs.Trying.{bytes_of, SameTable, Tried}
-use Rattle.sheet.proofs.Answering.{count_never}
-use Rattle.sheet.proofs.Facts.{rows_long, marks_long, cells_few, tied_at, same_figures_by, same_table_figures}
-use Rattle.sheet.proofs.Halfway.{half, open_needless, new_open, half_closed, half_none, bytes_half, half_old, half_opened, half_added, bytes_opened, bytes_back}
-use Rattle.sheet.proofs.Lent.{Hidden}
+use Rattle.sheet.specs.Trying.{covers_of, Hidden, SameTable, Tried}
+use Rattle.sheet.proofs.Facts.{rows_long, covers_long, cells_few, tied_at, same_figures_by, same_table_figures}
+use Rattle.sheet.proofs.Halfway.{half, open_needless, new_open, half_closed, half_none, covers_half, half_old, half_opened, half_added, covers_opened, covers_back}
 use Rattle.sheet.proofs.Marking.{met_figures, met_needs, met_there, met_elsewhere}
 
 -- ONE CELL THAT IS TRIED
--- what is asked before a cell is shown
-abbrev pub HiddenBut : Sheet → ℕ → Type 0
-HiddenBut s k = (c : ℕ) → c < (figures_of s).shape.cells → 0 < needs (rows_of s) c → get_or (set (vec_items s.marks) k 0) c 0 ≡ 1
-
-module _ (s t : Sheet) (k : ℕ) (same : SameTable s t) (byte : vec_items t.marks ≡ set (vec_items s.marks) k 0) where
-  pub tried_hidden : HiddenBut s k → Hidden t
-  tried_hidden h c l n =
-      ap (λ (xs : List ℕ). get_or xs c 0) byte
-      ∙ h c (subst (λ (F : Figures). c < F.shape.cells) (same_table_figures s t same) l) (subst (λ (rows : List Row). 0 < needs rows c) same.same_rows n)
-
-  module _ (u : Sheet) (o : Option (ℕ × Side)) (says : o ≡ audit (figures_of t) (withheld_by (vec_items t.marks))) (stays : SameTable t u)
-      (kept : vec_items u.marks ≡ vec_items t.marks) where
-    found : (b : Bool) → b ≡ is_some o → b ≡ is_some (audit (figures_of s) (withheld_by (set (vec_items s.marks) k 0)))
-    found b e =
-        e ∙ ap is_some says
-        ∙ ap (λ (F : Figures). is_some (audit F (withheld_by (vec_items t.marks)))) (same_table_figures s t same)
-        ∙ ap (λ (xs : List ℕ). is_some (audit (figures_of s) (withheld_by xs))) byte
-
-    pub tried_opened : false ≡ is_some o → Tried s k false u
-    tried_opened e = record {
-      same_network = stays.same_network ∙ same.same_network;
-      finds = found false e;
-      bytes = kept ∙ byte;
-      rows = stays.same_rows ∙ same.same_rows;
-    }
-
-    pub tried_added : (v w : Sheet) → true ≡ is_some o → SameTable u v → vec_items v.marks ≡ set (vec_items u.marks) k 1
-        → w.network ≡ v.network → w.marks ≡ v.marks → rows_of w ≡ set (rows_of v) k (met (row_at (rows_of v) k) Added) → Tried s k true w
-    tried_added v w e back put net marks is =
-        let rows : rows_of v ≡ rows_of s = back.same_rows ∙ stays.same_rows ∙ same.same_rows in
-        record {
-          same_network = net ∙ back.same_network ∙ stays.same_network ∙ same.same_network;
-          finds = found true e;
-          bytes = ap vec_items marks ∙ put ∙ ap (λ (xs : List ℕ). set xs k 1) (kept ∙ byte);
-          rows = is ∙ ap (λ (xs : List Row). set xs k (met (row_at xs k) Added)) rows;
-        }
+pub tried_hidden : (s t : Sheet) (k : ℕ) → SameTable s t → vec_items t.bench.covers ≡ set (vec_items s.bench.covers) k Shown
+    → Hidden (figures_of s) (set (vec_items s.bench.covers) k Shown) → Hidden (figures_of t) (vec_items t.bench.covers)
+tried_hidden s t k same cover h =
+    subst (Hidden (figures_of t)) (sym cover) (subst (λ (F : Figures). Hidden F (set (vec_items s.bench.covers) k Shown)) (sym (same_table_figures s t same)) h)
 
 -- THE WAY DOWN
 -- The cells from i on are decided, and n of them were added.
@@ -71,7 +38,7 @@ pub record Searching (before : Sheet) (i n : ℕ) (now : Sheet) : Type 0 where
   pub same_figures : figures_of now ≡ figures_of before
   pub inside : i ≤ (figures_of before).shape.cells
   pub untried : (c : ℕ) → c < i → mark_at (rows_of now) c ≡ mark_at (rows_of before) c
-  pub bytes : (c : ℕ) → withheld_by (vec_items now.marks) c ≡ withheld (figures_of before) (half i (rows_of now)) c
+  pub covers : (c : ℕ) → withheld_by (vec_items now.bench.covers) c ≡ withheld (figures_of before) (half i (rows_of now)) c
   pub leads : reopen (figures_of before) (newly (figures_of before) (stands before)) i (half i (rows_of now)) ≡ searched (figures_of before) (stands before)
   pub counts : n ≡ count_below (figures_of before).shape.cells (λ c. (stands now).complement c && not ((stands before).complement c))
 
@@ -79,22 +46,26 @@ no_more : (b : Bool) → (b && not b) ≡ false
 no_more true = refl
 no_more false = refl
 
-pub search_none : (s : Sheet) (i : ℕ) → i ≡ (figures_of s).shape.cells → vec_items s.marks ≡ bytes_of 1 (rows_of s) → Searching s i 0 s
+pub search_none : (s : Sheet) (i : ℕ) → i ≡ (figures_of s).shape.cells → vec_items s.bench.covers ≡ covers_of Withheld (rows_of s) → Searching s i 0 s
 search_none s i top is = subst (λ j. Searching s j 0 s) (sym top) record {
   same_network = refl;
   same_figures = refl;
   inside = omega arith;
   untried = λ c l. refl;
-  bytes = λ c.
-      ap (λ (xs : List ℕ). withheld_by xs c) is
-      ∙ bytes_half s 1 (figures_of s).shape.cells (omega arith) (λ x l. sym (lt-ltb x (figures_of s).shape.cells l)) c;
+  covers = λ c.
+      ap (λ (xs : List Cover). withheld_by xs c) is
+      ∙ covers_half s Withheld (figures_of s).shape.cells (omega arith) (λ x l. sym (lt-ltb x (figures_of s).shape.cells l)) c;
   leads = ap (reopen (figures_of s) (newly (figures_of s) (stands s)) (figures_of s).shape.cells) (half_closed s);
-  counts = sym (sum_none (figures_of s).shape.cells _ (λ c l. ap (λ b. cond b 1 0) (no_more ((stands s).complement c))));
+  counts = sym (sum_none (figures_of s).shape.cells _ (λ c l. ap (λ b. cond b 1 0) (and-not_self ((stands s).complement c))));
 }
 
-pub few_added : (before : Sheet) (i n : ℕ) (now : Sheet) → Searching before i n now → n ≤ 512
-few_added before i n now h =
+pub few_added : {before now : Sheet} {i n : ℕ} → Searching before i n now → n ≤ 512
+few_added {before = before} {now = now} h =
     omega (arith, h.counts, cells_few before, count_le (figures_of before).shape.cells (λ c. (stands now).complement c && not ((stands before).complement c)))
+
+-- the cell before i
+pub down_one : {before now : Sheet} {i n : ℕ} → 0 < i → Searching before i n now → Searching before ((i - 1) + 1) n now
+down_one {before = before} {now = now} {i = i} {n = n} l h = let same : i ≡ (i - 1) + 1 = omega arith in subst (λ j. Searching before j n now) same h
 
 -- one turn of the recursion
 turn_by : (F : Figures) (new : ℕ → Bool) (k : ℕ) (st : Standing) (a b : Bool) → new k ≡ a → is_some (audit F (withheld F (opened k st))) ≡ b
@@ -104,7 +75,7 @@ turn_by F new k st a b e f =
     ∙ ap (λ x. reopen F new k (cond (x && not (is_some (audit F (withheld F (opened k st))))) (opened k st) st)) e
     ∙ ap (λ x. reopen F new k (cond (a && not x) (opened k st) st)) f
 
-module _ (before now : Sheet) (k n : ℕ) (so_far : Searching before (k + 1) n now) where
+module _ {before now : Sheet} (k : ℕ) {n : ℕ} (so_far : Searching before (k + 1) n now) where
   abbrev F : Figures
   F = figures_of before
 
@@ -126,8 +97,8 @@ module _ (before now : Sheet) (k n : ℕ) (so_far : Searching before (k + 1) n n
   in_rows : k < length (rows_of now)
   in_rows = omega (arith, in_now, rows_long now)
 
-  in_marks : k < length (vec_items now.marks)
-  in_marks = omega (arith, in_now, marks_long now)
+  in_covers : k < length (vec_items now.bench.covers)
+  in_covers = omega (arith, in_now, covers_long now)
 
   new_is : (b : Bool) → is_open_mark (mark_at (rows_of now) k) ≡ b → new k ≡ b
   new_is b e =
@@ -143,7 +114,7 @@ module _ (before now : Sheet) (k n : ℕ) (so_far : Searching before (k + 1) n n
     same_figures = so_far.same_figures;
     inside = omega (arith, so_far.inside);
     untried = λ c l. so_far.untried c (omega arith);
-    bytes = λ c. so_far.bytes c ∙ ap (λ (x : Standing). withheld F x c) (half_old (rows_of now) k e);
+    covers = λ c. so_far.covers c ∙ ap (λ (x : Standing). withheld F x c) (half_old (rows_of now) k e);
     leads =
         ap (reopen F new k) (sym (half_old (rows_of now) k e))
         ∙ sym (turn_by F new k st false (is_some (audit F (withheld F (opened k st)))) (new_is false e) refl)
@@ -157,30 +128,29 @@ module _ (before now : Sheet) (k n : ℕ) (so_far : Searching before (k + 1) n n
         ap (λ (G : Figures). ltb 0 (G.need k)) (sym so_far.same_figures)
         ∙ open_needless (needs (rows_of now) k) (mark_at (rows_of now) k) (tied_at now k in_now) (ap is_open_mark e)
 
-    bytes_shown : (c : ℕ) → withheld_by (set (vec_items now.marks) k 0) c ≡ withheld F (half k (rows_of now)) c
-    bytes_shown = bytes_opened F (rows_of now) (vec_items now.marks) k in_marks e so_far.bytes needless
+    covers_shown : (c : ℕ) → withheld_by (set (vec_items now.bench.covers) k Shown) c ≡ withheld F (half k (rows_of now)) c
+    covers_shown = covers_opened F (rows_of now) (vec_items now.bench.covers) k in_covers e so_far.covers needless
 
-    -- an open cell may be shown in the bytes
-    pub open_hidden : HiddenBut now k
+    -- an open cell may be shown
+    pub open_hidden : Hidden (figures_of now) (set (vec_items now.bench.covers) k Shown)
     open_hidden c l h =
-        eqb-true (get_or (set (vec_items now.marks) k 0) c 0) 1
-        (bytes_shown c ∙ or_left (ltb 0 (F.need c)) _ (ap (λ (G : Figures). ltb 0 (G.need c)) (sym so_far.same_figures) ∙ lt-ltb 0 (needs (rows_of now) c) h))
+        covers_shown c ∙ or_left (ltb 0 (F.need c)) _ (ap (λ (G : Figures). ltb 0 (G.need c)) (sym so_far.same_figures) ∙ lt-ltb 0 (needs (rows_of now) c) h)
 
-    audits : (b : Bool) → b ≡ is_some (audit (figures_of now) (withheld_by (set (vec_items now.marks) k 0))) → is_some (audit F (withheld F (opened k st))) ≡ b
+    audits : (b : Bool) → b ≡ is_some (audit (figures_of now) (withheld_by (set (vec_items now.bench.covers) k Shown))) → is_some (audit F (withheld F (opened k st))) ≡ b
     audits b f = sym (f
-        ∙ ap (λ (G : Figures). is_some (audit G (withheld_by (set (vec_items now.marks) k 0)))) so_far.same_figures
-        ∙ ap (λ (w : ℕ → Bool). is_some (audit F w)) (fun_ext bytes_shown)
+        ∙ ap (λ (G : Figures). is_some (audit G (withheld_by (set (vec_items now.bench.covers) k Shown)))) so_far.same_figures
+        ∙ ap (λ (w : ℕ → Bool). is_some (audit F w)) (fun_ext covers_shown)
         ∙ ap (λ (x : Standing). is_some (audit F (withheld F x))) (sym (half_opened (rows_of now) k e)))
 
     -- nobody is exposed, and the cell is open again
     pub step_opened : (after : Sheet) → Tried now k false after → Searching before k n after
     step_opened after t = record {
       same_network = t.same_network ∙ so_far.same_network;
-      same_figures = same_figures_by now after t.same_network (ap figures t.rows) (ap needs t.rows) ∙ so_far.same_figures;
+      same_figures = same_table_figures now after (record { same_network = t.same_network; same_rows = t.rows }) ∙ so_far.same_figures;
       inside = omega (arith, so_far.inside);
       untried = λ c l. ap (λ (rows : List Row). mark_at rows c) t.rows ∙ so_far.untried c (omega arith);
-      bytes = λ c.
-          ap (λ (xs : List ℕ). withheld_by xs c) t.bytes ∙ bytes_shown c
+      covers = λ c.
+          ap (λ (xs : List Cover). withheld_by xs c) t.covers ∙ covers_shown c
           ∙ ap (λ (rows : List Row). withheld F (half k rows) c) (sym t.rows);
       leads =
           ap (λ (rows : List Row). reopen F new k (half k rows)) t.rows
@@ -227,9 +197,9 @@ module _ (before now : Sheet) (k n : ℕ) (so_far : Searching before (k + 1) n n
             ∙ so_far.same_figures;
         inside = omega (arith, so_far.inside);
         untried = λ c l. elsewhere c (below_other c l) ∙ so_far.untried c (omega arith);
-        bytes = λ c.
-            ap (λ (xs : List ℕ). withheld_by xs c) t.bytes
-            ∙ bytes_back F (rows_of now) (vec_items now.marks) k in_marks e so_far.bytes c
+        covers = λ c.
+            ap (λ (xs : List Cover). withheld_by xs c) t.covers
+            ∙ covers_back F (rows_of now) (vec_items now.bench.covers) k in_covers e so_far.covers c
             ∙ ap (λ (x : Standing). withheld F x c) (half_added (rows_of now) k (rows_of after) in_rows e t.rows);
         leads =
             ap (reopen F new k) (sym (half_added (rows_of now) k (rows_of after) in_rows e t.rows))
@@ -242,32 +212,16 @@ module _ (before now : Sheet) (k n : ℕ) (so_far : Searching before (k + 1) n n
           below_other c l = omega arith
 
 -- AT THE END
-module _ (s t after : Sheet) (i n : ℕ) (same : SameTable s t) (done : i ≤ 0) (h : Searching t i n after) where
-  ended : Searching t 0 n after
-  ended = let none : i ≡ 0 = omega arith in subst (λ j. Searching t j n after) none h
-
-  figures_same : figures_of t ≡ figures_of s
-  figures_same = same_table_figures s t same
-
-  stands_same : stands t ≡ stands s
-  stands_same = ap standing_of same.same_rows
-
-  stands_searched : stands after ≡ searched (figures_of s) (stands s)
-  stands_searched =
-      sym (half_none (rows_of after)) ∙ ended.leads
-      ∙ ap (λ (F : Figures). searched F (stands t)) figures_same ∙ ap (searched (figures_of s)) stands_same
-
-  pub search_counts : n ≡ added (figures_of s) (stands s)
-  search_counts =
-      ended.counts
-      ∙ ap (λ (F : Figures). count_below F.shape.cells (λ c. (stands after).complement c && not ((stands t).complement c))) figures_same
-      ∙ ap (λ (x : Standing). count_below (figures_of s).shape.cells (λ c. x.complement c && not ((stands t).complement c))) stands_searched
-      ∙ ap (λ (x : Standing). count_below (figures_of s).shape.cells (λ c. (searched (figures_of s) (stands s)).complement c && not (x.complement c))) stands_same
-
-  pub search_acted : Acted s seek (count n) after
-  search_acted = record {
-    does = record { right = ap count search_counts; leaves = stands_searched };
-    same_network = ended.same_network ∙ same.same_network;
-    same_figures = ended.same_figures ∙ figures_same;
-    same_rows = λ r f. absurd (count_never n r f);
-  }
+pub search_acted : {s after : Sheet} {n : ℕ} → Searching s 0 n after → Acted s seek (count n) after
+search_acted {s = s} {after = after} h = record {
+  does = record {
+    right = ap count (h.counts ∙ ap (λ (x : Standing). count_below (figures_of s).shape.cells (λ c. x.complement c && not ((stands s).complement c))) stood);
+    leaves = stood;
+  };
+  same_network = h.same_network;
+  same_figures = h.same_figures;
+  same_rows = λ r f. cc;
+}
+  where
+    stood : stands after ≡ searched (figures_of s) (stands s)
+    stood = sym (half_none (rows_of after)) ∙ h.leads

@@ -1,5 +1,5 @@
 -- Rows and the cell records made of them.
-use Rattle.std.specs.Prelude.{◌≡◌, true, false, Some, None, Option}
+use Rattle.std.specs.Prelude.{◌≡◌, true, false, Ok, Err, Result}
 use Rattle.layouts.specs.declared.memory.Row.{Row}
 use Rattle.sheet.specs.declared.cell.Cell.{Cell}
 use Rattle.sheet.specs.Cells.{is_cell}
@@ -8,7 +8,7 @@ use Rattle.sheet.specs.Cells.{is_cell}
 abbrev pub row_of : Cell → Row
 row_of c = record { figure = c.figure; need = c.need; mark = c.mark }
 
--- a record is made of exactly the rows that can be one
-abbrev pub Made : Row → Option Cell → Type 0
-Made row (Some c) = (is_cell row ≡ true) × (row_of c ≡ row)
-Made row None = is_cell row ≡ false
+-- a record is made of exactly the rows that can be one; another is given back
+abbrev pub Made : Row → Result Cell Row → Type 0
+Made row (Ok c) = (is_cell row ≡ true) × (row_of c ≡ row)
+Made row (Err r) = (is_cell row ≡ false) × (r ≡ row)

@@ -33,11 +33,12 @@ pub record Acted (before : Sheet) (act : Act) (a : Answer) (after : Sheet) : Typ
   pub same_figures : figures_of after ≡ figures_of before
   pub same_rows : (r : Refusal) → a ≡ refused r → rows_of after ≡ rows_of before
 
--- Each cell has met the event that there is for it, and nothing but its mark has changed.
-pub record Met (before : Sheet) (event : ℕ → Event) (after : Sheet) : Type 0 where
+-- Each cell has met an event that is one for it, and nothing but its mark has changed.
+pub record Met (before : Sheet) (IsFor : ℕ → Event → Type 0) (after : Sheet) : Type 0 where
   pub same_network : after.network ≡ before.network
   pub same_figures : figures_of after ≡ figures_of before
-  pub marks : (c : ℕ) → c < (figures_of before).shape.cells → mark_at (rows_of after) c ≡ next_mark (mark_at (rows_of before) c) (event c)
+  pub marks : (c : ℕ) → c < (figures_of before).shape.cells
+      → (e : Event) × IsFor c e × (mark_at (rows_of after) c ≡ next_mark (mark_at (rows_of before) c) e)
 
 -- what a withhold of this list is to each cell
 abbrev pub listing : List ℕ → ℕ → Event

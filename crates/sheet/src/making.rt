@@ -17,18 +17,12 @@ impl Sheet {
         let Settled {
             network,
             rows,
-            marks,
-            table,
-            layer,
-            via,
+            bench,
         } = settled;
         Sheet {
             network,
             table: Table { rows },
-            marks,
-            reading: table,
-            layer,
-            via,
+            bench,
         }
     }
 }

@@ -8,14 +8,16 @@ use crate::cell::Cell;
 use crate::events::Event;
 use layouts::memory::{Mark, Row};
 
-impl Cell {
-    // The record of a row whose need, figure and mark go together.
-    pub(crate) fn of(row: Row) -> Option<Cell>
-        ensures { Made row result }
-    {
+// A row whose need, figure and mark go together is the record of a cell; another is given back.
+impl TryFrom<Row> for Cell {
+    type Error = Row;
+
+    ghost try_from_gives = { Made };
+
+    fn try_from(row: Row) -> Result<Cell, Row> {
         let Row { figure, need, mark } = row;
         if need > figure {
-            return None;
+            return Err(row);
         }
         let tied = match mark {
             Mark::Open | Mark::Complement | Mark::Printed => need == 0,
@@ -23,19 +25,23 @@ impl Cell {
             Mark::Barred => false,
         };
         if tied {
-            Some(Cell { figure, need, mark })
+            Ok(Cell { figure, need, mark })
         } else {
-            None
+            Err(row)
         }
     }
+}
 
-    pub(crate) fn into_row(self) -> Row
-        ensures { result ≡ row_of self }
-    {
-        let Cell { figure, need, mark } = self;
+impl From<Cell> for Row {
+    ghost from_gives = { λ cell row. row ≡ row_of cell };
+
+    fn from(cell: Cell) -> Row {
+        let Cell { figure, need, mark } = cell;
         Row { figure, need, mark }
     }
+}
 
+impl Cell {
     pub(crate) fn meet(&mut self, event: Event)
         ensures { row_of self.new ≡ met (row_of self.old) event }
     {
@@ -67,11 +73,11 @@ pub(crate) fn met_row(row: Row, event: Event) -> Row
     requires { is_cell row ≡ true }
     ensures { result ≡ met row event }
 {
-    match Cell::of(row) {
-        Some(mut cell) => {
+    match Cell::try_from(row) {
+        Ok(mut cell) => {
             cell.meet(event);
-            cell.into_row()
+            cell.into()
         }
-        None => row,
+        Err(row) => row,
     }
 }

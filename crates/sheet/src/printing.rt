@@ -2,20 +2,15 @@
 ghost use Rattle.std.specs.Prelude.{◌≡◌, ◌*◌, ◌≤◌, ◌++◌, length, drop};
 ghost use Rattle.readings.specs.Exposure.{audit};
 ghost use Rattle.runs.specs.Acts.{page_of, print, withheld};
-ghost use Rattle.sheet.specs.declared.events.Event.TheVariants.{PagePrinted};
 ghost use Rattle.sheet.specs.Calls.{answered, page_left_by, paged, print_answer, refusal_of, shown_by};
-ghost use Rattle.sheet.specs.Sheets.{Acted, Met, figures_of, stands};
+ghost use Rattle.sheet.specs.Sheets.{Acted, figures_of, stands};
 ghost use Rattle.sheet.specs.Trying.{SameTable};
 
 use crate::events::Event;
 use crate::held::Sheet;
-use crate::trying::SHOWN;
-use layouts::memory::{Mark, Row};
-use page::write_line;
+use layouts::memory::{Cover, Mark, Row};
+use page::{LINE, write_line};
 use refusals::{Refusal, Side};
-
-// the bytes of a line
-const LINE: usize = 19;
 
 // What a page shows of a row.
 fn shown(row: Row) -> Option<u64>
@@ -33,7 +28,7 @@ impl Sheet {
         ensures says { result ≡ audit (figures_of self.old) (withheld (figures_of self.old) (stands self.old)) }
         ensures same { SameTable self.old self.new }
     {
-        self.set_bytes(SHOWN);
+        self.set_covers(Cover::Shown);
         self.audit()
     }
 
@@ -56,17 +51,8 @@ impl Sheet {
         requires { 19 * (figures_of self.now).shape.cells ≤ length memory.old }
         ensures { memory.new ≡ page_of (figures_of self.now) (stands self.now) ++ drop (19 * (figures_of self.now).shape.cells) memory.old }
     {
-        for cell in 0..self.cells() {
-            let _ = write_line(memory, cell, shown(self.row(cell)));
-        }
-    }
-
-    // Each cell meets the page.
-    fn meet_page(&mut self)
-        ensures { Met self.old (λ _. PagePrinted) self.new }
-    {
-        for cell in 0..self.cells() {
-            self.meet(cell, Event::PagePrinted);
+        for (cell, row) in self.table.rows.iter().enumerate() {
+            let _ = write_line(memory, cell, shown(*row));
         }
     }
 
@@ -79,7 +65,7 @@ impl Sheet {
     {
         self.check_page(memory.len())?;
         self.write_lines(memory);
-        self.meet_page();
+        self.meet_all(|_| Event::PagePrinted);
         Ok(LINE * self.cells())
     }
 }

@@ -1,69 +1,66 @@
-// Trials on a sheet: the mark bytes that they go by, and the audit.
-ghost use Rattle.std.specs.Prelude.{◌≡◌, ℕ, ◌<◌, length, slice_index, slice_set};
+// Trials on a sheet: the covers that they go by, and the audit.
+ghost use Rattle.std.specs.Prelude.{◌≡◌, ◌<◌, length, slice_set};
 ghost use Rattle.readings.specs.Exposure.{audit};
 ghost use Rattle.readings.specs.Paths.{withheld_by};
-ghost use Rattle.readings.specs.Rows.{needs};
 ghost use Rattle.sheet.specs.Sheets.{figures_of, rows_of};
-ghost use Rattle.sheet.specs.Trying.{SameTable, byte_of_mark, bytes_of};
+ghost use Rattle.sheet.specs.Trying.{Hidden, SameTable, cover_of_mark, covers_of};
 
 use crate::held::Sheet;
-use layouts::memory::{Mark, Row};
+use layouts::memory::{Cover, Mark, Row};
 use readings::trials::Trials;
 use refusals::Side;
 
-pub(crate) const SHOWN: u8 = 0;
-
-pub(crate) const WITHHELD: u8 = 1;
-
-fn byte_of(mark: Mark, byte: u8) -> u8
-    ensures { result ≡ byte_of_mark byte mark }
+// What covers a cell of that mark, where an open one gets the cover that is chosen.
+fn cover_of(mark: Mark, chosen: Cover) -> Cover
+    ensures { result ≡ cover_of_mark chosen mark }
 {
     match mark {
-        Mark::Open => byte,
-        Mark::Sensitive | Mark::Complement => WITHHELD,
-        Mark::Printed | Mark::Barred => SHOWN,
+        Mark::Open => chosen,
+        Mark::Sensitive | Mark::Complement => Cover::Withheld,
+        Mark::Printed | Mark::Barred => Cover::Shown,
     }
 }
 
-fn copy_marks(rows: &[Row], marks: &mut [u8], byte: u8)
-    requires { length marks.old ≡ length rows.now }
-    ensures { marks.new ≡ bytes_of byte rows.now }
+fn cover_rows(rows: &[Row], covers: &mut [Cover], chosen: Cover)
+    requires { length covers.old ≡ length rows.now }
+    ensures { covers.new ≡ covers_of chosen rows.now }
 {
     for (cell, row) in rows.iter().enumerate() {
-        marks[cell] = byte_of(row.mark, byte);
+        covers[cell] = cover_of(row.mark, chosen);
     }
 }
 
 impl Sheet {
-    // Sets the mark bytes by the rows, where each open cell gets the byte.
-    pub(crate) fn set_bytes(&mut self, byte: u8)
+    // Covers the cells by their rows, where each open cell gets the cover that is chosen.
+    pub(crate) fn set_covers(&mut self, chosen: Cover)
         ensures same { SameTable self.old self.new }
-        ensures bytes { self.new.marks.items ≡ bytes_of byte (rows_of self.old) }
+        ensures covers { self.new.bench.covers.items ≡ covers_of chosen (rows_of self.old) }
     {
-        copy_marks(self.table.rows.as_slice(), self.marks.as_mut_slice(), byte);
+        cover_rows(
+            self.table.rows.as_slice(),
+            self.bench.covers.as_mut_slice(),
+            chosen,
+        );
     }
 
-    // Sets the mark byte of one cell.
-    pub(crate) fn set_byte(&mut self, cell: usize, byte: u8)
+    // Covers one cell.
+    pub(crate) fn set_cover(&mut self, cell: usize, cover: Cover)
         requires { cell < (figures_of self.old).shape.cells }
         ensures same { SameTable self.old self.new }
-        ensures byte { self.new.marks.items ≡ slice_set self.old.marks.items cell byte }
+        ensures cover { self.new.bench.covers.items ≡ slice_set self.old.bench.covers.items cell cover }
     {
-        self.marks[cell] = byte;
+        self.bench.covers[cell] = cover;
     }
 
-    // The lowest sensitive cell that is exposed, up before down, where the mark bytes say what is withheld.
+    // The lowest sensitive cell that is exposed, up before down, where the covers say what is withheld.
     pub(crate) fn audit(&mut self) -> Option<(usize, Side)>
-        requires { (c : ℕ) → c < (figures_of self.old).shape.cells → 0 < needs (rows_of self.old) c → slice_index self.old.marks.items c ≡ 1 }
-        ensures says { result ≡ audit (figures_of self.old) (withheld_by self.old.marks.items) }
+        requires { Hidden (figures_of self.old) self.old.bench.covers.items }
+        ensures says { result ≡ audit (figures_of self.old) (withheld_by self.old.bench.covers.items) }
         ensures same { SameTable self.old self.new }
-        ensures bytes { self.new.marks.items ≡ self.old.marks.items }
+        ensures covers { self.new.bench.covers.items ≡ self.old.bench.covers.items }
     {
         Trials {
-            marks: &mut self.marks,
-            table: &mut self.reading,
-            layer: &mut self.layer,
-            via: &mut self.via,
+            bench: &mut self.bench,
             network: &self.network,
             rows: self.table.rows.as_slice(),
         }

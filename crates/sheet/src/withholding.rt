@@ -2,11 +2,11 @@
 ghost use Rattle.std.specs.Prelude.{◌≡◌, false, is_ok};
 ghost use Rattle.runs.specs.Acts.{withhold};
 ghost use Rattle.sheet.specs.Calls.{answered, counted, refusal_of, withhold_answer};
-ghost use Rattle.sheet.specs.Sheets.{Acted, Met, listing};
+ghost use Rattle.sheet.specs.Sheets.{Acted, listing};
 
 use crate::events::Event;
 use crate::held::Sheet;
-use crate::inner::is_printed;
+use layouts::memory::Mark;
 use refusals::Refusal;
 use sums::is_among;
 
@@ -36,20 +36,11 @@ impl Sheet {
             if *cell >= self.cells() {
                 return Err(Refusal::UnknownCell { cell: *cell });
             }
-            if is_printed(self.row(*cell).mark) {
+            if self.row(*cell).mark == Mark::Printed {
                 return Err(Refusal::AlreadyPrinted { cell: *cell });
             }
         }
         Ok(())
-    }
-
-    // Each cell meets what the list is to it.
-    fn meet_list(&mut self, cells: &[usize])
-        ensures { Met self.old (listing cells.now) self.new }
-    {
-        for cell in 0..self.cells() {
-            self.meet(cell, event_of(cells, cell));
-        }
     }
 
     // Makes complements of exactly the listed cells that are not sensitive, and answers how many they are. The whole list is checked
@@ -60,7 +51,7 @@ impl Sheet {
         ensures unchanged { is_ok result ≡ false → self.new ≡ self.old }
     {
         self.check_entries(cells)?;
-        self.meet_list(cells);
+        self.meet_all(|cell| event_of(cells, cell));
         Ok(self.complements())
     }
 }

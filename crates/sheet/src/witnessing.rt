@@ -5,7 +5,7 @@ ghost use Rattle.sheet.specs.Calls.{tabled, witness_answer};
 ghost use Rattle.sheet.specs.Sheets.{Acted, figures_of};
 
 use crate::held::Sheet;
-use crate::trying::SHOWN;
+use layouts::memory::Cover;
 use readings::trials::Trials;
 use refusals::{Refusal, Side};
 
@@ -23,15 +23,12 @@ impl Sheet {
         ensures beyond { drop (figures_of self.old).shape.cells memory.new ≡ drop (figures_of self.old).shape.cells memory.old }
         ensures untouched { is_ok result ≡ false → memory.new ≡ memory.old }
     {
-        self.set_bytes(SHOWN);
+        self.set_covers(Cover::Shown);
         Trials {
-            marks: &mut self.marks,
-            table: &mut self.reading,
-            layer: &mut self.layer,
-            via: &mut self.via,
+            bench: &mut self.bench,
             network: &self.network,
             rows: self.table.rows.as_slice(),
         }
-        .witness(cell, Side::of(side), memory)
+        .witness(cell, Side::from(side), memory)
     }
 }

@@ -9,12 +9,7 @@ ghost use Rattle.sums.specs.Sums.{among};
 pub fn is_among(number: usize, places: &[usize]) -> bool
     ensures { result ≡ among number places.now }
 {
-    for place in places {
-        if number == *place {
-            return true;
-        }
-    }
-    false
+    places.contains(&number)
 }
 
 // Two sums, one inside the other, may be exchanged.

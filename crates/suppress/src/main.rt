@@ -8,14 +8,9 @@ use std::io::{Read, Write};
 // All of standard input, or one byte more than an input may have.
 fn read_input(rt: &HostRuntime) -> io::Result<Vec<u8>> {
     let mut input = Vec::new(rt.alloc());
-    for _ in 0..LONGEST_INPUT {
-        let mut buffer = [0u8; 4096];
-        let count = rt.stdin().read(&mut buffer)?;
-        if count == 0 || input.len() > LONGEST_INPUT {
-            break;
-        }
-        input.extend_from_slice(&buffer[0..count])?;
-    }
+    rt.stdin()
+        .take(LONGEST_INPUT as u64 + 1)
+        .read_to_end(&mut input)?;
     Ok(input)
 }
 

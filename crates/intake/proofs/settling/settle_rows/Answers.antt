@@ -1,10 +1,8 @@
 -- One row more is settled.
-use Rattle.std.proofs.Common.{◌≡◌, ◌<◌, ◌≤◌, [], length, take, sym, ap, ◌∙◌, arith}
-use Rattle.std.proofs.lemmas.List.{take_more_set, take_all}
+use Rattle.std.proofs.Common.{◌<◌, [], length, take, vec_items, ◌∙◌, arith}
+use Rattle.std.proofs.lemmas.List.{take_more_set}
 use Rattle.layouts.specs.Admission.{shape_of}
-use Rattle.layouts.specs.Copied.{values}
 use Rattle.layouts.proofs.Values.{values_push}
-use Rattle.layouts.proofs.Kept.{network_cells}
 use Rattle.intake.specs.Chains.{held}
 use Rattle.intake.specs.Settling.{settled_row}
 use Rattle.intake.proofs.Settles.{row_meaning}
@@ -13,22 +11,12 @@ use Rattle.intake.proofs.settling.settle_rows.Goals as goal
 pub loop-cell-preserved : goal.loop-cell-preserved
 loop-cell-preserved g c =
     let s = shape_of c.args.network.now in
-    let xs = held c.args.records.now in
+    let xs = held (vec_items c.args.chains.now.records) in
     let m = g.R.Rule.meaning c.args.rule.now in
     let i = c.loop-cell.cell in
     let inv = c.loop-cell.invariant in
-    let h : i < length c.loop-cell.rows = omega (arith, c.loop-cell.auto.rows, c.requires.wide.1) in
+    let h : i < length c.loop-cell.rows = omega (arith, c.loop-cell.auto.rows, c.loop-cell-test.true) in
     let row = c.settle_cell.ensures.row ∙ row_meaning s (g.R.Rule.meaning c.loop-cell.rule) m xs i inv.1 in (
       values_push [] (take i c.loop-cell.rows) _ i (settled_row s m xs) c.settle_cell.result inv.0 (take_more_set c.loop-cell.rows i c.settle_cell.result h) row,
       λ ys. c.settle_cell.ensures.same ys ∙ inv.1 ys,
     )
-
-pub returns : goal.returns
-returns g c =
-    let s = shape_of c.args.network.now in
-    let i = c.loop-cell.cell in
-    let inv = c.loop-cell.invariant in
-    let end : length c.loop-cell.rows ≤ i = omega (arith, c.loop-cell.auto.rows, c.requires.wide.1, c.loop-cell-test.false) in
-    let all = take_all i c.loop-cell.rows end in
-    let cells : i ≡ s.cells = omega (arith, c.loop-cell.auto.cell-end, c.loop-cell-test.false, c.requires.wide.0, network_cells c.args.network.now) in
-    sym all ∙ inv.0 ∙ ap (λ n. values n (settled_row s (g.R.Rule.meaning c.args.rule.now) (held c.args.records.now))) cells

@@ -1,5 +1,5 @@
 -- One more mark, and the refusal of a push.
-use Rattle.std.proofs.Common.{◌<◌, refl, arith}
+use Rattle.std.proofs.Common.{◌<◌, [], refl, arith}
 use Rattle.layouts.specs.Copied.{marks_of}
 use Rattle.layouts.proofs.Answered.{mark_told, memory_wanting}
 use Rattle.layouts.proofs.Values.{values_push}
@@ -13,5 +13,5 @@ loop-cell-preserved g c =
     let s = g.L.Layout.shape c.args.layout.now in
     let i = c.loop-cell.cell in
     let lt : i < s.cells = omega arith in
-    values_push _ _ _ i (marks_of s c.args.leaf) _ c.loop-cell.invariant c.in_ok-push.ensures.items
+    values_push [] _ _ i (marks_of s c.args.leaf) _ c.loop-cell.invariant c.in_ok-push.ensures.items
     (mark_told s i c.args.leaf c.counts.result _ lt c.counts.ensures c.unwrap_or.ensures)

@@ -1,7 +1,7 @@
--- The marks of the cells below this one are appended.
-use Rattle.std.proofs.Common.{◌≡◌, ◌++◌, vec_items}
+-- The marks of the cells below this one are listed.
+use Rattle.std.proofs.Common.{◌≡◌, vec_items}
 use Rattle.layouts.specs.Copied.{marks_of, values}
 use Rattle.layouts.proofs.copying.copy_marks.Given as goal
 
 abbrev pub invariant-loop-cell : goal.invariant-loop-cell
-invariant-loop-cell g l = vec_items l.under ≡ vec_items l.initial.under ++ values l.cell (marks_of (g.L.Layout.shape l.layout) l.leaf)
+invariant-loop-cell g l = vec_items l.under ≡ values l.cell (marks_of (g.L.Layout.shape l.layout) l.leaf)

@@ -7,7 +7,7 @@ use Rattle.office.proofs.running.enter_all.Given as goal
 
 abbrev pub invariant-loop-x : goal.invariant-loop-x
 invariant-loop-x g l =
-    (entered_after (shape_of l.initial.intake.network) (held (vec_items l.initial.intake.memory.records)) l.contributions
-    ≡ entered_after (shape_of l.initial.intake.network) (held (vec_items l.intake.memory.records)) (drop l.x-index l.contributions))
+    (entered_after (shape_of l.initial.intake.network) (held (vec_items l.initial.intake.chains.records)) l.contributions
+    ≡ entered_after (shape_of l.initial.intake.network) (held (vec_items l.intake.chains.records)) (drop l.x-index l.contributions))
     × (l.intake.network ≡ l.initial.intake.network)
     × (l.intake.rule ≡ l.initial.intake.rule)

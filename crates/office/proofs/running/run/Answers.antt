@@ -1,32 +1,12 @@
--- What was entered at the copy is what the layout takes in.
-use Rattle.std.proofs.Common.{vec_items, refl, ap, ◌∙◌}
-use Rattle.std.proofs.lemmas.Result.{MatchResult-weaker, err_from_is_err_and}
-use Rattle.intake.specs.Chains.{held}
-use Rattle.office.proofs.Turns.{taken_entered, same_at, answers_by, refuses_memory, refuses_with}
+-- What is entered at the copy is what the layout takes in.
+use Rattle.std.proofs.Common.{rules}
+use Rattle.office.specs.Office.{entered}
+use Rattle.office.proofs.Turns.{fills_from, filled_entered}
 use Rattle.office.proofs.running.run.Goals as goal
 
 pub returns : goal.returns
 returns g c =
     let s = g.L.Layout.shape c.args.layout.now in
-    let n = c.in_ok-admitted.admitted.network in
-    let admitted = c.in_ok-admitted.ensures in
-    let opened = c.open-intake.ensures in
-    let entered = c.in_ok-enter_all.ensures in
-    let intake = c.enter_all.new.intake in
-    let xs = held (vec_items intake.memory.records) in
-    let taken = taken_entered s admitted.0 n c.open-intake.result.network opened.network admitted.1 (held (vec_items c.open-intake.result.memory.records)) opened.none
-    c.args.contributions.now _ entered.taken in
-    let same = same_at s admitted.0 n intake.network (entered.same.0 ∙ opened.network) admitted.1 _ refl in
-    MatchResult-weaker c.settle_and_run.result (c.settle_and_run.ensures s (g.met.L.Layout.lawful c.args.layout.now) same)
-    (λ v r. answers_by s _ _ (ap g.R.Rule.meaning (entered.same.1 ∙ opened.rule)) _ xs taken c.args.acts.now (vec_items v) r)
-    (λ e h. refuses_memory _ xs taken e h)
-
-pub returns-in_err-enter_all : goal.returns-in_err-enter_all
-returns-in_err-enter_all g c =
-    let s = g.L.Layout.shape c.args.layout.now in
-    let admitted = c.in_ok-admitted.ensures in
-    let opened = c.open-intake.ensures in
-    let taken = taken_entered s admitted.0 c.in_ok-admitted.admitted.network c.open-intake.result.network opened.network admitted.1
-    (held (vec_items c.open-intake.result.memory.records)) opened.none c.args.contributions.now _ c.in_err-enter_all.ensures.taken in
-    let p = err_from_is_err_and c.from_residual-in_err-enter_all.result c.from_residual-in_err-enter_all.ensures.1 in
-    rw p.1 (refuses_with _ _ _ taken p.2)
+    let xs = c.args.contributions.now in
+    c.run_filled.ensures (entered s xs)
+    (fills_from _ _ s (entered s xs) (λ p q r none same called. filled_entered s p.now q.now r none same (search rules) xs (search rules)))

@@ -1,48 +1,21 @@
--- The tests are those of the answer, in their order.
-use Rattle.std.proofs.Common.{ℕ, ◌<◌, true, ltb, Ok, vec_len, refl, ap, ◌∙◌, arith}
-use Rattle.std.proofs.lemmas.Bool.{and_from, lt-ltb, true≢false}
+-- The new record is at a leaf.
+use Rattle.std.proofs.Common.{◌≡◌, ℕ, ◌<◌, true, ltb, List, [], ◌∷◌, length, get_or, vec_items, ap, ◌∙◌, arith}
+use Rattle.std.proofs.lemmas.Bool.{and_from, lt-ltb}
 use Rattle.layouts.specs.Admission.{shape_of}
+use Rattle.layouts.specs.Shape.{is_leaf}
+use Rattle.layouts.specs.declared.network.Edge.{Edge}
 use Rattle.layouts.specs.declared.network.Network.{Network}
-use Rattle.layouts.proofs.Kept.{network_cells}
-use Rattle.intake.proofs.Deposits.{leaf_marked}
-use Rattle.intake.proofs.Entered.{held_count, too_many, accepts}
+use Rattle.intake.proofs.Deposits.{leaf_of_edge}
+use Rattle.intake.proofs.Goods.{leafy_after}
 use Rattle.intake.proofs.held.Intake.enter.Goals as goal
 
-inside : (n : Network) (l : ℕ) → l < vec_len n.leaves → l < (shape_of n).cells
-inside n l h = omega (arith, network_cells n)
+-- what was read of the cell's edge
+leaf_found : (n : Network) (es : List Edge) (l : ℕ) (e : Edge) → es ≡ vec_items n.edges → (l < length es) × ((d : Edge) → e ≡ get_or es l d) → e.leaf ≡ true → is_leaf (shape_of n) l ≡ true
+leaf_found n es l e all at leaf =
+    and_from (ltb l (shape_of n).cells) ((shape_of n).leaf l) (lt-ltb l (shape_of n).cells (omega (arith, ap length all))) (leaf_of_edge n es l e all at.0 (at.1 e) ∙ leaf)
 
-pub returns-then-len-ge-MOST_CONTRIBUTIONS : goal.returns-then-len-ge-MOST_CONTRIBUTIONS
-returns-then-len-ge-MOST_CONTRIBUTIONS g c =
-    let n = c.args.self.now.network in
-    let l = c.args.x.leaf in
-    let h : l < vec_len n.leaves = omega arith in
-    record {
-      answer = too_many (shape_of n) _ c.args.x (inside n l h) (leaf_marked n l _ true h c.index.ensures c.if-not-index.false) c.if-x-gt-LARGEST_AMOUNT.false
-          (omega (arith, held_count c.args.self.now.memory.records));
-      held = refl;
-      same = (refl, refl);
-      untouched = λ _. refl;
-    }
-
-pub append-requires : goal.append-requires
-append-requires g c =
-    let n = c.args.self.now.network in
-    let l = c.args.x.leaf in
-    let h : l < vec_len n.leaves = omega arith in (
-      and_from (ltb l (shape_of n).cells) ((shape_of n).leaf l) (lt-ltb l (shape_of n).cells (inside n l h)) (leaf_marked n l _ true h c.index.ensures c.if-not-index.false),
-      c.if-x-gt-LARGEST_AMOUNT.false,
-      omega arith,
-    )
-
-pub returns : goal.returns
-returns g c =
-    let n = c.args.self.now.network in
-    let l = c.args.x.leaf in
-    let h : l < vec_len n.leaves = omega arith in
-    record {
-      answer = ap Ok c.append.ensures.number ∙ accepts (shape_of n) _ c.args.x (inside n l h) (leaf_marked n l _ true h c.index.ensures c.if-not-index.false) c.if-x-gt-LARGEST_AMOUNT.false
-          (omega (arith, held_count c.args.self.now.memory.records));
-      held = c.append.ensures.held;
-      same = (c.append.ensures.same.0, c.append.ensures.same.1);
-      untouched = λ e. absurd (true≢false e);
-    }
+pub invariant_of-self-clause-leafy : goal.invariant_of-self-clause-leafy
+invariant_of-self-clause-leafy g c =
+    let s = c.args.self.now in
+    let leaf = leaf_found s.network _ c.args.x.leaf c.in-Some.edge.now c.deref.ensures.value c.in-Some.ensures.lookup.3 c.if-not-edge.false in
+    leafy_after (shape_of s.network) s.chains.records c.append.new.self.records (c.args.x ∷ []) s.leafy (leaf, c.if-x-gt-LARGEST_AMOUNT.false, tt) c.append.ensures.held

@@ -1,6 +1,6 @@
 #!/usr/bin/env bash
-# Lists the places of older forms in src/ of a commit, or with no argument of the tree: tools/places.sh [-v] [COMMIT]
-# Each line has a point of docs/DESIGN-PASS.md, what is looked for, and how many lines have it; -v prints these lines.
+# Counts the lines of src/ that have a form of docs/DESIGN-PASS.md, in a commit or, with no argument, in the tree:
+# tools/places.sh [-v] [COMMIT]. Each line has a point of that page, what is looked for, and how many lines have it; -v prints them.
 set -uo pipefail
 cd "$(dirname "$0")/.."
 verbose=0

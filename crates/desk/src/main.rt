@@ -3,9 +3,10 @@
 
 use faults::Fault;
 use intake::held::Intake;
-use job::choosing::{make_layout, make_rule};
+use job::chosen_layout::ChosenLayout;
+use job::chosen_rule::ChosenRule;
 use layouts::admission::admit;
-use office::acts::Answer;
+use office::acts::Outcome;
 use office::running::run;
 use refusals::Refusal;
 use script::{Script, read_script};
@@ -22,9 +23,9 @@ mod telling;
 
 // A sheet of the same contributions, to look at cells between the acts.
 fn open_sheet(heap: Global, settings: &Settings, script: &Script) -> Result<Sheet, Refusal> {
-    let layout = make_layout(settings.layout)?;
+    let layout = ChosenLayout::try_from(settings.layout)?;
     let admitted = admit(heap, &layout)?;
-    let mut intake = Intake::open(admitted, make_rule(settings.rule)?);
+    let mut intake = Intake::open(admitted, ChosenRule::try_from(settings.rule)?);
     for x in script.contributions.iter() {
         let _ = intake.enter(*x)?;
     }
@@ -32,13 +33,9 @@ fn open_sheet(heap: Global, settings: &Settings, script: &Script) -> Result<Shee
 }
 
 // The answers to all acts of the script.
-fn run_script(
-    heap: Global,
-    settings: &Settings,
-    script: &Script,
-) -> Result<Vec<Result<Answer, Refusal>>, Refusal> {
-    let layout = make_layout(settings.layout)?;
-    let rule = make_rule(settings.rule)?;
+fn run_script(heap: Global, settings: &Settings, script: &Script) -> Result<Vec<Outcome>, Refusal> {
+    let layout = ChosenLayout::try_from(settings.layout)?;
+    let rule = ChosenRule::try_from(settings.rule)?;
     run(heap, &layout, rule, &script.contributions, &script.acts)
 }
 
@@ -57,6 +54,7 @@ fn main(rt: HostRuntime) -> io::Result<()> {
     match serve(&rt) {
         Ok(()) => Ok(()),
         Err(Fault::Io(error)) => Err(error),
+        Err(Fault::Memory(error)) => Err(io::Error::from(error)),
         Err(fault) => {
             println!(rt; "{fault}")?;
             Err(io::Error::from(io::ErrorKind::InvalidInput))

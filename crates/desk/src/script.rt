@@ -3,10 +3,11 @@ use crate::faults::Fault;
 use layouts::admission::MOST_CELLS;
 use layouts::memory::Contribution;
 use office::acts::{Act, LONGEST_PAGE};
-use std::alloc::{AllocError, AllocFailed, Global};
+use std::alloc::{AllocError, Global};
 use std::collections::BTreeMap;
 use std::num::ParseIntError;
 use std::str::FromStr;
+use thiserror::Error;
 
 // `looks` has the cells that are looked at after so many acts.
 #[derive(Drop)]
@@ -24,42 +25,28 @@ enum Line {
 }
 
 // Why a line is not read.
-#[derive(Debug, Drop)]
+#[derive(Debug, Drop, Error)]
 enum LineFault {
-    Unknown,
-    OutOfMemory(AllocError),
+    #[error("a word is wanting or left over")]
+    Words,
+    #[error(transparent)]
+    NoNumber(#[from] ParseIntError),
+    #[error(transparent)]
+    Memory(#[from(alloc)] AllocError),
 }
 
 impl LineFault {
     // The fault of a script whose line of that number this is.
     fn at(self, line: usize) -> Fault {
         match self {
-            LineFault::Unknown => Fault::UnknownLine(line),
-            LineFault::OutOfMemory(error) => Fault::from(error),
+            LineFault::Words | LineFault::NoNumber(_) => Fault::UnknownLine(line),
+            LineFault::Memory(error) => Fault::Memory(error),
         }
     }
 }
 
-impl From<ParseIntError> for LineFault {
-    fn from(_e: ParseIntError) -> LineFault {
-        LineFault::Unknown
-    }
-}
-
-impl From<AllocError> for LineFault {
-    fn from(error: AllocError) -> LineFault {
-        LineFault::OutOfMemory(error)
-    }
-}
-
-impl<T: Drop> From<AllocFailed<T>> for LineFault {
-    fn from(error: AllocFailed<T>) -> LineFault {
-        LineFault::OutOfMemory(AllocError::from(error))
-    }
-}
-
 fn number<T: FromStr<Err = ParseIntError>>(word: Option<&str>) -> Result<T, LineFault> {
-    Ok(word.ok_or(LineFault::Unknown)?.parse::<T>()?)
+    Ok(word.ok_or(LineFault::Words)?.parse::<T>()?)
 }
 
 // A line `leaf company amount`.
@@ -74,7 +61,7 @@ fn read_contribution(line: &str) -> Result<Contribution, LineFault> {
             company,
             amount,
         }),
-        Some(_) => Err(LineFault::Unknown),
+        Some(_) => Err(LineFault::Words),
     }
 }
 
@@ -120,14 +107,12 @@ pub fn read_script(heap: Global, text: &[u8]) -> Result<Script, Fault> {
         acts: Vec::new(heap),
         looks: BTreeMap::new(heap),
     };
-    let Ok(text) = std::str::from_utf8(text) else {
-        return Err(Fault::UnknownLine(2));
-    };
-    for (i, line) in text.lines().enumerate() {
+    let text = std::str::from_utf8(text).map_err(|_| Fault::UnknownLine(2))?;
+    for (number, line) in (2usize..).zip(text.lines()) {
         if line.is_empty() {
             continue;
         }
-        match read_line(heap, line).map_err(|fault| fault.at(i.saturating_add(2)))? {
+        match read_line(heap, line).map_err(|fault| fault.at(number))? {
             Line::Contributed(x) => script.contributions.push(x)?,
             Line::Acted(act) => script.acts.push(act)?,
             Line::Looked(cell) => script

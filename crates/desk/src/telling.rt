@@ -1,7 +1,7 @@
 // Telling acts, answers and cells in words.
 use crate::script::Script;
 use layouts::memory::{Mark, Row};
-use office::acts::{Act, Answer, LONGEST_PAGE};
+use office::acts::{Act, Answer, LONGEST_PAGE, Outcome};
 use refusals::Refusal;
 use sheet::Sheet;
 use std::io;
@@ -27,7 +27,7 @@ fn tell_act(rt: &HostRuntime, act: &Act) -> io::Result<()> {
     }
 }
 
-fn tell_answer(rt: &HostRuntime, answer: &Result<Answer, Refusal>) -> io::Result<()> {
+fn tell_answer(rt: &HostRuntime, answer: &Outcome) -> io::Result<()> {
     match answer {
         Ok(Answer::Count(count)) => println!(rt; "  accepted, {count} cells"),
         Ok(Answer::Page(page)) => rt.stdout().write_all(page),
@@ -96,7 +96,7 @@ fn tell_looks(rt: &HostRuntime, script: &Script, after: usize, sheet: &Sheet) ->
 pub fn tell_all(
     rt: &HostRuntime,
     script: &Script,
-    answers: &[Result<Answer, Refusal>],
+    answers: &[Outcome],
     mut sheet: Sheet,
 ) -> io::Result<()> {
     for (i, (act, answer)) in script.acts.iter().zip(answers).enumerate() {

@@ -3,14 +3,16 @@ use crate::tables::open_square;
 use layouts::admission::admit;
 use layouts::grid::Grid;
 use layouts::memory::{Contribution, Mark};
-use refusals::Refusal;
+use page::LINE;
+use refusals::{Refusal, Side};
 use sheet::Sheet;
 use std::alloc::Global;
 use std::io;
 
-const MOST_CELLS: usize = 25;
+// The largest of the worked tables has as many cells.
+const CELLS: usize = 25;
 
-const MOST_BYTES: usize = 19 * MOST_CELLS;
+const PAGE: usize = LINE * CELLS;
 
 fn outcome(rt: &HostRuntime, what: &str, answer: Result<usize, Refusal>) -> io::Result<()> {
     match answer {
@@ -21,7 +23,7 @@ fn outcome(rt: &HostRuntime, what: &str, answer: Result<usize, Refusal>) -> io::
 
 fn list_complements(rt: &HostRuntime, sheet: &Sheet) -> io::Result<()> {
     print!(rt; "  complements:")?;
-    for cell in 0..MOST_CELLS {
+    for cell in 0..CELLS {
         if let Ok(row) = sheet.look(cell)
             && row.mark == Mark::Complement
         {
@@ -48,7 +50,7 @@ fn work<F: FnOnce(Sheet) -> io::Result<()>>(
 // Withholds a list, and prints a page.
 pub fn printing(rt: &HostRuntime, made: Result<Sheet, Refusal>, cells: &[usize]) -> io::Result<()> {
     work(rt, made, |mut sheet| {
-        let mut page = [0u8; MOST_BYTES];
+        let mut page = [0u8; PAGE];
         outcome(rt, "withhold", sheet.withhold(cells))?;
         list_complements(rt, &sheet)?;
         outcome(rt, "print", sheet.print(&mut page))
@@ -75,7 +77,7 @@ pub fn long_list(rt: &HostRuntime, made: Result<Sheet, Refusal>) -> io::Result<(
 // After a page, a printed cell cannot be withheld any more.
 pub fn printed_twice(rt: &HostRuntime, made: Result<Sheet, Refusal>) -> io::Result<()> {
     work(rt, made, |mut sheet| {
-        let mut page = [0u8; MOST_BYTES];
+        let mut page = [0u8; PAGE];
         outcome(rt, "withhold", sheet.withhold(&[1, 3, 4]))?;
         outcome(rt, "print", sheet.print(&mut page))?;
         outcome(rt, "withhold 1 2", sheet.withhold(&[1, 2]))?;
@@ -85,10 +87,18 @@ pub fn printed_twice(rt: &HostRuntime, made: Result<Sheet, Refusal>) -> io::Resu
 
 // Witnesses of cell 0 on both sides, and its figure in each.
 fn list_witnesses(rt: &HostRuntime, sheet: &mut Sheet) -> io::Result<()> {
-    let mut table = [0u64; MOST_CELLS];
-    outcome(rt, "witness above", sheet.witness(0, 1, &mut table))?;
+    let mut table = [0u64; CELLS];
+    outcome(
+        rt,
+        "witness above",
+        sheet.witness(0, Side::Up.into(), &mut table),
+    )?;
     let above = table[0];
-    outcome(rt, "witness below", sheet.witness(0, 2, &mut table))?;
+    outcome(
+        rt,
+        "witness below",
+        sheet.witness(0, Side::Down.into(), &mut table),
+    )?;
     let below = table[0];
     println!(rt; "  cell 0 may be {above} or {below}")
 }

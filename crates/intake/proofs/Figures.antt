@@ -1,7 +1,7 @@
 -- The figures of contributions balance, no need is above its figure, and under a sensitive cell counts some leaf.
 use Rattle.std.proofs.Common.{◌≡◌, ℕ, suc, ◌+◌, ◌*◌, ◌<◌, ◌≤◌, Bool, true, false, cond, ◌&&◌, eqb, ltb, List, [], ◌∷◌, length, get_or, sum, sym, refl, ap, ◌∙◌, ⊎_elim, arith}
 use Rattle.std.proofs.lemmas.List.Sums.{sum_by-cons}
-use Rattle.std.proofs.lemmas.Bool.{cases_Bool, and_parts, and_from, eq-eqb, ltb-true}
+use Rattle.std.proofs.lemmas.Bool.{cases_Bool, and_parts, and_from, ltb-true}
 use Rattle.sums.specs.Sums.{sum_below, count_below}
 use Rattle.sums.proofs.SumBelow.{sum_same, sum_add, sum_zero, sum_weighed}
 use Rattle.layouts.specs.Shape.{Shape, Laws, is_leaf, leaving, entering}
@@ -17,7 +17,7 @@ use Rattle.readings.specs.Exposure.{any_below}
 use Rattle.readings.proofs.Sets.{some_any_below}
 use Rattle.intake.specs.Contributions.{amounts_under, figure_of, need_of}
 use Rattle.intake.specs.Chains.{leaf_list, amount_list}
-use Rattle.intake.specs.Marks.{mark_at, first_mark, mark_number, same_mark}
+use Rattle.intake.specs.Marks.{mark_at, first_mark}
 use Rattle.intake.specs.Settling.{is_under, settled_row, settled_rows}
 
 -- every contribution is entered at a leaf
@@ -120,10 +120,10 @@ module _ (s : Shape) (laws : Laws s) (meaning : List ℕ → ℕ) (bound : (ys :
   pub rows_small : ((i : ℕ) → i < length xs → get_or (amount_list xs) i 0 ≤ 1000000000) → length xs ≤ 2048 → (c : ℕ) → c < s.cells → figures rows c ≤ 2048000000000
   rows_small small few c h = omega (arith, figures_are c h, figure_small s xs c small)
 
-  pub rows_begun : (c : ℕ) → c < s.cells → same_mark (mark_at rows c) (first_mark (needs rows c)) ≡ true
+  pub rows_begun : (c : ℕ) → c < s.cells → mark_at rows c ≡ first_mark (needs rows c)
   rows_begun c h =
       let m : mark_at rows c ≡ first_mark (needs rows c) = marks_are c h ∙ ap first_mark (sym (needs_are c h)) in
-      eq-eqb (mark_number (mark_at rows c)) (mark_number (first_mark (needs rows c))) (ap mark_number m)
+      m
 
   pub rows_grounded : (c : ℕ) → c < s.cells → ltb 0 (needs rows c) ≡ true → any_below s.cells (is_under s c) ≡ true
   rows_grounded c h t = leaf_under s xs c at (omega (arith, ltb-true 0 (needs rows c) t, need_within c h, figures_are c h))

@@ -47,9 +47,9 @@ told_more whole told rest end a e d = e ∙ ap (λ t. told ++ t) d ∙ sym (appe
 -- an amount within the limits is accepted
 pub told_accepted : (S : List ℕ → Type 0) (r : Result (Unit {0}) Refusal) (a : ℕ) (xs told whole rest : List ℕ) → a ≤ 1000000000
     → whole ≡ told ++ a ∷ rest → length xs + length whole ≤ 2048
-    → r ≡ verdict a (length (xs ++ told)) → S (after r (xs ++ told) a) → S (xs ++ (told ++ a ∷ []))
+    → r ≡ verdict 0 a (length (xs ++ told)) → S (after r (xs ++ told) a) → S (xs ++ (told ++ a ∷ []))
 told_accepted S r a xs told whole rest small e room is stands =
     let long : length whole ≡ length told + (length rest + 1) = ap length e ∙ simp length-append (omega arith) in
     let short : length (xs ++ told) < 2048 = simp length-append (omega arith) in
-    let yes : verdict a (length (xs ++ told)) ≡ Ok tt = grind (arith, nat_tests) in
+    let yes : verdict 0 a (length (xs ++ told)) ≡ Ok tt = grind (arith, nat_tests) in
     subst S (append_assoc xs told (a ∷ [])) (subst (λ v. S (after v (xs ++ told) a)) (is ∙ yes) stands)

@@ -1,5 +1,6 @@
 -- A deposit: numbers of four bytes, the chain of each cell through its records, and the walk over them up to the first fault.
 use Rattle.std.specs.Prelude.{ℕ, zero, suc, ◌+◌, ◌*◌, Bool, true, false, cond, not, ◌&&◌, List, [], ◌∷◌, ◌++◌, length, replicate, Some, None, Ok, Err, Option, Result, is_some, ◌==◌, nat_le, nat_lt, slice_index, slice_index_or, slice_set}
+use Rattle.std.specs.Result.{result_and}
 use Rattle.refusals.specs.declared.Refusal.{Refusal}
 use Rattle.refusals.specs.declared.Refusal.TheVariants.{NotALeaf, AmountTooLarge, TooManyContributions, DepositLength, DepositCells, LinkTooLarge, RecordReached, RecordUnreached}
 use Rattle.layouts.specs.Shape.{Shape}
@@ -77,20 +78,11 @@ counted cells held bytes =
     (cond (not (cell_count bytes == cells)) (Err DepositCells)
     (cond (nat_lt 2048 (held + record_count bytes)) (Err TooManyContributions) (Ok (record_count bytes))))
 
-abbrev pub and_read : Result ℕ Refusal → (ℕ → Result (List Contribution) Refusal) → Result (List Contribution) Refusal
-and_read (Ok q) read = read q
-and_read (Err e) read = Err e
-
 -- what a deposit holds, in the order of its chains; or why it is refused
 abbrev pub deposited : Shape → ℕ → List ℕ → Result (List Contribution) Refusal
-deposited s held bytes = and_read (counted s.cells held bytes) (λ q. walk s bytes q s.cells 0 (replicate q false))
+deposited s held bytes = result_and (counted s.cells held bytes) (walk s bytes (record_count bytes) s.cells 0 (replicate (record_count bytes) false))
 
--- what loading answers: the record count
-abbrev pub load_answer : Result (List Contribution) Refusal → List ℕ → Result ℕ Refusal
-load_answer (Ok xs) bytes = Ok (record_count bytes)
-load_answer (Err e) bytes = Err e
-
--- and what is held then
+-- what is held once that was read
 abbrev pub held_then : Result (List Contribution) Refusal → List Contribution → List Contribution
 held_then (Ok xs) held = held ++ xs
 held_then (Err e) held = held

@@ -1,13 +1,7 @@
--- How a walk over a deposit's chains came out.
-use Rattle.std.specs.Prelude.{◌≡◌, ℕ, ◌+◌, ◌*◌, ◌≤◌, true, List, [], ◌∷◌, Ok, Err, Result}
-use Rattle.refusals.specs.declared.Refusal.{Refusal}
+-- What a walk over a deposit's chains reads.
+use Rattle.std.specs.Prelude.{◌≡◌, ℕ, ◌+◌, ◌*◌, ◌≤◌, true, List, [], ◌∷◌}
 use Rattle.layouts.specs.Shape.{Shape, is_leaf}
 use Rattle.layouts.specs.declared.memory.Contribution.{Contribution}
-
--- the fault, or else what was read
-abbrev pub came : Result (Unit {0}) Refusal → List Contribution → Result (List Contribution) Refusal
-came (Ok _) xs = Ok xs
-came (Err e) xs = Err e
 
 -- contributions that can be entered: each at a leaf, and no amount above the largest
 abbrev pub Good : Shape → List Contribution → Type 0

@@ -1,8 +1,9 @@
 // Reading a deposit: its numbers, and the walk over its chains up to the first fault.
-ghost use Rattle.std.specs.Prelude.{◌≡◌, ◌+◌, ◌*◌, ◌≤◌, true, false, [], length, replicate, is_ok, vec_len, vec_capacity};
+ghost use Rattle.std.specs.Prelude.{◌≡◌, ◌+◌, ◌*◌, ◌≤◌, true, false, [], length, replicate, Ok, is_ok, vec_len, vec_capacity};
+ghost use Rattle.std.specs.Result.{result_and};
 ghost use Rattle.layouts.specs.Admission.{shape_of};
 ghost use Rattle.intake.specs.Deposit.{contribution, counted, link, walk, word};
-ghost use Rattle.intake.specs.Walks.{came, RecordInside};
+ghost use Rattle.intake.specs.Walks.{RecordInside};
 
 use layouts::memory::Contribution;
 use layouts::network::Network;
@@ -70,7 +71,7 @@ fn walk_chains(
     requires sizes { length bytes.now ≡ 8 + 4 * vec_len network.now.edges + 12 * length seen.old }
     requires room { (length seen.old ≤ 2048) × (2048 ≤ vec_capacity pending.old) }
     requires none { (pending.old.items ≡ []) × (seen.old ≡ replicate (length seen.old) false) }
-    ensures walked { walk (shape_of network.now) bytes.now (length seen.old) (vec_len network.now.edges) 0 seen.old ≡ came result pending.new.items }
+    ensures walked { walk (shape_of network.now) bytes.now (length seen.old) (vec_len network.now.edges) 0 seen.old ≡ result_and result (Ok pending.new.items) }
     ensures capacity { 2048 ≤ vec_capacity pending.new }
     ensures many { is_ok result ≡ true → vec_len pending.new ≡ length seen.old }
 {
@@ -115,7 +116,7 @@ pub(crate) fn read_chains(
 ) -> Result<(), Refusal>
     requires sizes { (length bytes.now ≡ 8 + 4 * vec_len network.now.edges + 12 * records) × (records ≤ 2048) }
     requires room { (vec_len seen.old ≡ 2048) × (2048 ≤ vec_capacity pending.old) }
-    ensures walked { walk (shape_of network.now) bytes.now records (vec_len network.now.edges) 0 (replicate records false) ≡ came result pending.new.items }
+    ensures walked { walk (shape_of network.now) bytes.now records (vec_len network.now.edges) 0 (replicate records false) ≡ result_and result (Ok pending.new.items) }
     ensures capacity { 2048 ≤ vec_capacity pending.new }
     ensures many { is_ok result ≡ true → vec_len pending.new ≡ records }
     ensures long { vec_len seen.new ≡ 2048 }

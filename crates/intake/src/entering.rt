@@ -2,14 +2,15 @@
 ghost use Rattle.std.specs.Prelude.{◌≡◌, false, [], is_ok};
 ghost use Rattle.layouts.specs.Admission.{shape_of};
 ghost use Rattle.intake.specs.Chains.{held};
-ghost use Rattle.intake.specs.Entering.{enter_answer, held_after};
+ghost use Rattle.intake.specs.Entering.{enter_answer};
+ghost use Rattle.rules.specs.Telling.{after};
 
 use crate::chains::Chains;
 use crate::held::Intake;
 use layouts::admitted::Admitted;
 use layouts::memory::{Contribution, Memory};
 use refusals::Refusal;
-use rules::telling::{LARGEST_AMOUNT, MOST_CONTRIBUTIONS};
+use rules::telling::verdict;
 
 impl<R: Drop> Intake<R> {
     pub fn open(admitted: Admitted, rule: R) -> Intake<R>
@@ -40,7 +41,7 @@ impl<R: Drop> Intake<R> {
     // Appends a record, and lengthens the chain of its leaf by it. Answers how many contributions are held.
     pub fn enter(&mut self, x: Contribution) -> Result<usize, Refusal>
         ensures answer { result ≡ enter_answer (shape_of self.old.network) (held self.old.chains.records.items) x }
-        ensures held { held self.new.chains.records.items ≡ held_after result (held self.old.chains.records.items) x }
+        ensures held { held self.new.chains.records.items ≡ after result (held self.old.chains.records.items) x }
         ensures same { (self.new.network ≡ self.old.network) × (self.new.rule ≡ self.old.rule) }
         ensures untouched { is_ok result ≡ false → self.new ≡ self.old }
     {
@@ -51,12 +52,7 @@ impl<R: Drop> Intake<R> {
         if !edge.leaf {
             return Err(Refusal::NotALeaf { cell });
         }
-        if x.amount > LARGEST_AMOUNT {
-            return Err(Refusal::AmountTooLarge { cell });
-        }
-        if self.chains.records.len() >= MOST_CONTRIBUTIONS {
-            return Err(Refusal::TooManyContributions);
-        }
+        verdict(cell, x.amount, self.chains.records.len())?;
         Ok(self.chains.append(x))
     }
 }

@@ -1,8 +1,9 @@
 // Loading a deposit: all of it, or nothing.
-ghost use Rattle.std.specs.Prelude.{◌≡◌, ◌+◌, ◌≤◌, false, ◌++◌, length, is_ok, vec_len};
+ghost use Rattle.std.specs.Prelude.{◌≡◌, ◌+◌, ◌≤◌, false, ◌++◌, length, Ok, is_ok, vec_len};
+ghost use Rattle.std.specs.Result.{result_and};
 ghost use Rattle.layouts.specs.Admission.{shape_of};
 ghost use Rattle.intake.specs.Chains.{held};
-ghost use Rattle.intake.specs.Deposit.{deposited, held_then, load_answer};
+ghost use Rattle.intake.specs.Deposit.{deposited, held_then, record_count};
 ghost use Rattle.intake.specs.Walks.{Good};
 
 use crate::deposit::{count_records, read_chains};
@@ -12,7 +13,7 @@ use refusals::Refusal;
 impl<R: Drop> Intake<R> {
     // Does what entering each chain in its order, cell by cell, would do, and answers the record count. A refused deposit enters nothing.
     pub fn load(&mut self, bytes: &[u8]) -> Result<usize, Refusal>
-        ensures answer { result ≡ load_answer (deposited (shape_of self.old.network) (length (held self.old.chains.records.items)) bytes.now) bytes.now }
+        ensures answer { result ≡ result_and (deposited (shape_of self.old.network) (length (held self.old.chains.records.items)) bytes.now) (Ok (record_count bytes.now)) }
         ensures held { held self.new.chains.records.items ≡ held_then (deposited (shape_of self.old.network) (length (held self.old.chains.records.items)) bytes.now) (held self.old.chains.records.items) }
         ensures same { (self.new.network ≡ self.old.network) × (self.new.rule ≡ self.old.rule) }
         ensures untouched { is_ok result ≡ false → self.new.chains ≡ self.old.chains }

@@ -1,11 +1,9 @@
 // What settling gives: the layout's answers, the rows of the table, and the memory to try readings with.
-ghost use Rattle.std.specs.Prelude.{◌≡◌, ℕ, ◌<◌, true, vec_len, nat_lt};
-ghost use Rattle.layouts.specs.Admission.{shape_of};
-ghost use Rattle.readings.specs.Exposure.{any_below};
+ghost use Rattle.std.specs.Prelude.{◌≡◌, ℕ, ◌<◌, vec_len};
 ghost use Rattle.readings.specs.Rows.{needs};
 ghost use Rattle.readings.specs.Tables.{Fits, Tabled};
-ghost use Rattle.intake.specs.Marks.{first_mark, mark_at, same_mark};
-ghost use Rattle.intake.specs.Settling.{is_under};
+ghost use Rattle.intake.specs.Marks.{first_mark, mark_at};
+ghost use Rattle.intake.specs.Settling.{Grounded};
 
 use layouts::memory::{Bench, Row};
 use layouts::network::Network;
@@ -19,6 +17,6 @@ pub struct Settled {
     pub bench: Bench,
     ghost tabled: { Tabled network rows.items },
     ghost fits: { Fits network bench },
-    ghost begun: { (c : ℕ) → c < vec_len network.edges → same_mark (mark_at rows.items c) (first_mark (needs rows.items c)) ≡ true },
-    ghost grounded: { (c : ℕ) → c < vec_len network.edges → nat_lt 0 (needs rows.items c) ≡ true → any_below (vec_len network.edges) (is_under (shape_of network) c) ≡ true },
+    ghost begun: { (c : ℕ) → c < vec_len network.edges → mark_at rows.items c ≡ first_mark (needs rows.items c) },
+    ghost grounded: { Grounded network rows.items },
 }

@@ -1,9 +1,12 @@
 -- The meaning of the layout and of the rule that a settings line chooses.
-use Rattle.std.specs.Prelude.{ℕ, Bool, List}
+use Rattle.std.specs.Prelude.{◌≡◌, ℕ, Bool, true, false, List, Result, MatchResult}
+use Rattle.refusals.specs.declared.Refusal.{Refusal}
+use Rattle.refusals.specs.declared.Refusal.TheVariants.{LayoutSize, RuleRange}
 use Rattle.layouts.specs.Shape.{Shape}
 use Rattle.layouts.specs.Layouts.{grid, listed, grid_size, list_size}
 use Rattle.rules.specs.Needs.{p_need, p_range, nk_need, nk_range}
 use Rattle.rules.specs.Told.{Told}
+use Rattle.settings.specs.Asked.{shape_asked}
 use Rattle.settings.specs.declared.choices.LayoutSetting.{LayoutSetting}
 use Rattle.settings.specs.declared.choices.LayoutSetting.TheVariants.{Grid as grid_of, List as list_of}
 use Rattle.settings.specs.declared.choices.RuleSetting.{RuleSetting}
@@ -37,3 +40,13 @@ meaning_asked (nk_of n k) xs = nk_need n k xs
 abbrev pub rule_range : RuleSetting → Bool
 rule_range (p_of p) = p_range p
 rule_range (nk_of n k) = nk_range n k
+
+-- The result of making what a settings line asks for: the layout or the rule of that meaning, or the refusal of one out of its range.
+abbrev pub MakesLayout : LayoutSetting → Result ChosenLayout Refusal → Type 0
+MakesLayout setting r =
+    MatchResult r (λ l. (layout_range setting ≡ true) × (shape_of l ≡ shape_asked setting)) (λ e. (layout_range setting ≡ false) × (e ≡ LayoutSize))
+
+abbrev pub MakesRule : RuleSetting → Result ChosenRule Refusal → Type 0
+MakesRule setting r =
+    MatchResult r (λ m. (rule_range setting ≡ true) × ((xs : List ℕ) → meaning_of m xs ≡ meaning_asked setting xs))
+    (λ e. (rule_range setting ≡ false) × (e ≡ RuleRange))

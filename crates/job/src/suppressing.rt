@@ -3,11 +3,10 @@ ghost use Rattle.std.specs.Prelude.{◌≡◌, IsSome, MatchResult};
 ghost use Rattle.job.specs.Chosen.{shape_of};
 ghost use Rattle.job.specs.Job.{Printed, Refused, page_in, too_large, unless_refused};
 
-use crate::choosing::{make_layout, make_rule};
 use crate::chosen_layout::ChosenLayout;
-use layouts::Layout;
-use layouts::admission::{MOST_CELLS, MOST_RELATIONS};
-use office::acts::{Act, Answer, LONGEST_PAGE};
+use crate::chosen_rule::ChosenRule;
+use layouts::admission::is_admissible;
+use office::acts::{Act, Answer, LONGEST_PAGE, Outcome};
 use office::running::run_deposit;
 use refusals::Refusal;
 use settings::read_settings;
@@ -18,7 +17,7 @@ pub const LONGEST_INPUT: usize = 40_000;
 fn check_size(layout: &ChosenLayout, size: usize) -> Result<(), Refusal>
     ensures { result ≡ unless_refused (too_large (shape_of layout.now) size) }
 {
-    if layout.cells() > MOST_CELLS || layout.relations() > MOST_RELATIONS {
+    if !is_admissible(layout) {
         return Err(Refusal::LayoutTooLarge);
     }
     if size > LONGEST_INPUT {
@@ -28,7 +27,7 @@ fn check_size(layout: &ChosenLayout, size: usize) -> Result<(), Refusal>
 }
 
 // The page in the last answer to a search and a print, which by the law is not refused.
-fn page_of(last: Option<Result<Answer, Refusal>>) -> Vec<u8>
+fn page_of(last: Option<Outcome>) -> Vec<u8>
     requires { IsSome (page_in last) }
     ensures { page_in last ≡ Some result }
 {
@@ -43,8 +42,8 @@ pub fn suppress(heap: Global, input: &[u8]) -> Result<Vec<u8>, Refusal>
     ensures { MatchResult result (λ page. Printed input.now page.items) (λ e. Refused input.now e) }
 {
     let (settings, deposit) = read_settings(input)?;
-    let layout = make_layout(settings.layout)?;
-    let rule = make_rule(settings.rule)?;
+    let layout = ChosenLayout::try_from(settings.layout)?;
+    let rule = ChosenRule::try_from(settings.rule)?;
     check_size(&layout, input.len())?;
     let acts = [
         Act::Search,

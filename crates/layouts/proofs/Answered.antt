@@ -1,9 +1,6 @@
 -- What a layout's answers say of its meaning, and what a failed push says of a refusal.
-use Rattle.std.proofs.Common.{◌≡◌, ℕ, ◌<◌, Bool, true, false, cond, ◌&&◌, ltb, is_some, IsErrAnd, Some, Err, Option, Result, unwrap_or, refl, ap, ◌∙◌}
+use Rattle.std.proofs.Common.{◌≡◌, ℕ, ◌<◌, Bool, true, false, cond, ◌&&◌, ltb, is_some, Some, Option, unwrap_or, refl, ap, ◌∙◌}
 use Rattle.std.proofs.lemmas.Bool.{lt-ltb}
-use Rattle.std.proofs.lemmas.Result.{err_from_is_err_and}
-use Rattle.refusals.specs.declared.Refusal.{Refusal}
-use Rattle.refusals.specs.declared.Refusal.TheVariants.{OutOfMemory}
 use Rattle.layouts.specs.declared.Kind.{Kind}
 use Rattle.layouts.specs.declared.Kind.TheVariants.{Leaf, Total}
 use Rattle.layouts.specs.Shape.{Shape, is_leaf}
@@ -31,6 +28,3 @@ or_false false b = refl
 -- what `counts(..).unwrap_or(false)` gives at a cell of the layout
 pub mark_told : (s : Shape) (c l : ℕ) (o : Option Bool) (r : Bool) → c < s.cells → o ≡ counts_of s c l → r ≡ unwrap_or o false → r ≡ marks_of s l c
 mark_told s c l o r h e d = d ∙ ap (λ o. unwrap_or o false) e ∙ rw (lt-ltb c s.cells h) (or_false (is_leaf s l) (s.counts c l))
-
-pub memory_wanting : {X : Type 0} (r : Result X Refusal) → IsErrAnd r (λ e. e ≡ OutOfMemory) → r ≡ Err OutOfMemory
-memory_wanting r h = let p = err_from_is_err_and r h in p.1 ∙ ap Err p.2

@@ -80,11 +80,4 @@ pub network_cells : (n : Network) → (shape_of n).cells ≡ vec_len n.edges
 network_cells n = sym n.edges.ok.0
 
 pub network_laws : (n : Network) → Laws (shape_of n)
-network_laws n = record {
-  left = λ c h. n.left c (omega (arith, network_cells n));
-  entered = λ c h. n.entered c (omega (arith, network_cells n));
-  apart = λ c h. n.apart c (omega (arith, network_cells n));
-  itself = n.itself;
-  alone = n.alone;
-  balanced = n.balanced;
-}
+network_laws n = n.lawful

@@ -1,7 +1,7 @@
 -- The laws of a grid.
-use Rattle.std.specs.Prelude.{◌≡◌, ℕ, ◌+◌, ◌*◌, ◌<◌, ◌≤◌, true, false, not, ◌&&◌, List, [], ◌∷◌, ◌==◌, ◌≢◌, nat_eq, nat_lt, refl}
-use Rattle.std.proofs.Common.{sym, ap, ◌∙◌, arith}
-use Rattle.std.proofs.lemmas.Bool.{and_parts, ltb-true, ne_eqb, not-true}
+use Rattle.std.specs.Prelude.{◌≡◌, ℕ, ◌+◌, ◌*◌, ◌<◌, ◌≤◌, true, false, not, ◌&&◌, List, [], ◌∷◌, ◌==◌, nat_eq, nat_lt}
+use Rattle.std.proofs.Common.{sym, ◌∙◌, arith}
+use Rattle.std.proofs.lemmas.Bool.{and_parts, ltb-true}
 use Rattle.std.proofs.lemmas.Bool.Decides.{nat_tests}
 use Rattle.std.proofs.lemmas.Nat.{mul-add-lt, div-mul-add, mod-mul-add}
 use Rattle.sums.specs.Sums.{Apart, Within, passing}
@@ -18,13 +18,6 @@ module _ (R C : ℕ) where
 
   place_below : (r c : ℕ) → r ≤ R → c ≤ C → place R C r c < (R + 1) * (C + 1)
   place_below r c h k = omega (arith, mul-add-lt r (C + 1) c (R + 1) (omega arith) (omega arith))
-
-  -- what differs from a place in its row, or in its column, does not stand there
-  off_row : (k r c : ℕ) → c ≤ C → (row R C k ≢ r) → (k == place R C r c) ≡ false
-  off_row k r c h ne = ne_eqb k (place R C r c) (λ e. ne (ap (row R C) e ∙ row_place r c h))
-
-  off_column : (k r c : ℕ) → c ≤ C → (column R C k ≢ c) → (k == place R C r c) ≡ false
-  off_column k r c h ne = ne_eqb k (place R C r c) (λ e. ne (ap (column R C) e ∙ column_place r c h))
 
   -- a leaf stands inside
   inside : (l : ℕ) → is_leaf (grid R C) l ≡ true → (l < (R + 1) * (C + 1)) × (row R C l < R) × (column R C l < C)
@@ -46,15 +39,7 @@ module _ (R C : ℕ) where
       let p = at_place (row R C l) C (omega arith) in
       let q = at_place R (column R C l) (omega arith) in
       let z = at_place R C (omega arith) in
-      let l0 : (grid R C).leaves l ≡ row R C l = grind (arith, nat_tests) in
-      let l1 : (grid R C).leaves (place R C (row R C l) C) ≡ R + C = grind (arith, nat_tests) in
-      let l2 : (grid R C).leaves (place R C R (column R C l)) ≡ R + column R C l = grind (arith, nat_tests) in
-      let l3 : (grid R C).leaves (place R C R C) ≡ R + C + 1 = grind (arith, nat_tests) in
-      let e0 : (grid R C).enters l ≡ R + column R C l = grind (arith, nat_tests) in
-      let e1 : (grid R C).enters (place R C (row R C l) C) ≡ row R C l = grind (arith, nat_tests) in
-      let e2 : (grid R C).enters (place R C R (column R C l)) ≡ R + C + 1 = grind (arith, nat_tests) in
-      let e3 : (grid R C).enters (place R C R C) ≡ R + C = grind (arith, nat_tests) in
-      rw (l0, l1, l2, l3, e0, e1, e2, e3) (omega arith)
+      grind (arith, nat_tests)
 
   above_within : (l : ℕ) → l < (R + 1) * (C + 1) → row R C l < R → column R C l < C → Within ((R + 1) * (C + 1)) (above l)
   above_within l h hr hc = (h, (place_below (row R C l) C (omega arith) (omega arith), (place_below R (column R C l) (omega arith) (omega arith), (place_below R C (omega arith) (omega arith), tt))))
@@ -63,14 +48,8 @@ module _ (R C : ℕ) where
   above_apart l hr hc =
       let p = at_place (row R C l) C (omega arith) in
       let q = at_place R (column R C l) (omega arith) in
-      let c : C ≤ C = omega arith in
-      let d : column R C l ≤ C = omega arith in (
-        rw (off_column l (row R C l) C c (λ z. omega arith), off_row l R (column R C l) d (λ z. omega arith), off_row l R C c (λ z. omega arith)),
-        (
-          rw (off_row (place R C (row R C l) C) R (column R C l) d (λ z. omega arith), off_row (place R C (row R C l) C) R C c (λ z. omega arith)),
-          (rw (off_column (place R C R (column R C l)) R C c (λ z. omega arith)), (refl, tt)),
-        ),
-      )
+      let z = at_place R C (omega arith) in
+      grind (arith, nat_tests)
 
   grid_alone : (k l : ℕ) → two_leaves (grid R C) k l ≡ true → (grid R C).counts k l ≡ false
   grid_alone k l e =
@@ -78,7 +57,10 @@ module _ (R C : ℕ) where
       let q = and_parts (is_leaf (grid R C) k) (is_leaf (grid R C) l) p.0 in
       let i = inside k q.0 in
       let j = inside l q.1 in
-      rw (not-true (k == l) p.1, off_column k (row R C l) C (omega arith) (λ z. omega arith), off_row k R (column R C l) (omega arith) (λ z. omega arith), off_row k R C (omega arith) (λ z. omega arith))
+      let a = at_place (row R C l) C (omega arith) in
+      let b = at_place R (column R C l) (omega arith) in
+      let c = at_place R C (omega arith) in
+      grind (arith, nat_tests)
 
   grid_balanced : (l r : ℕ) → is_leaf (grid R C) l ≡ true → leaving (grid R C) l r ≡ entering (grid R C) l r
   grid_balanced l r e =

@@ -1,6 +1,5 @@
 // Admission: a layout within the limits is asked for its answers, and all memory that it will ever need is got with them.
-ghost use Rattle.std.specs.Prelude.{◌≡◌, true, MatchResult};
-ghost use Rattle.refusals.specs.declared.Refusal.TheVariants.{OutOfMemory};
+ghost use Rattle.std.specs.Prelude.{◌≡◌, true, IfOk, MatchResult};
 ghost use Rattle.layouts.specs.Admission.{admissible, layout_refusal, shape_of};
 ghost use Rattle.layouts.specs.Blank.{Clear, Fresh};
 ghost use Rattle.layouts.specs.Shape.{Same};
@@ -11,16 +10,15 @@ use crate::copying::copy_edges;
 use crate::memory::{Bench, Cover, Mark, Memory, Row};
 use crate::network::Network;
 use refusals::Refusal;
-use std::alloc::Global;
+use rules::telling::MOST_CONTRIBUTIONS;
+use std::alloc::{AllocError, Global};
 
 pub const MOST_CELLS: usize = 512;
 
-pub const MOST_RELATIONS: usize = 128;
+const MOST_RELATIONS: usize = 128;
 
-const RECORDS: usize = 2_048;
-
-fn get_bench(heap: Global, cells: usize, relations: usize) -> Result<Bench, Refusal>
-    ensures { MatchResult result (λ b. Clear cells relations b) (λ e. e ≡ OutOfMemory) }
+fn get_bench(heap: Global, cells: usize, relations: usize) -> Result<Bench, AllocError>
+    ensures { IfOk result (Clear cells relations) }
 {
     Ok(Bench {
         covers: vec![in heap; Cover::Shown; cells]?,
@@ -29,8 +27,8 @@ fn get_bench(heap: Global, cells: usize, relations: usize) -> Result<Bench, Refu
     })
 }
 
-fn get_memory(heap: Global, cells: usize, relations: usize) -> Result<Memory, Refusal>
-    ensures { MatchResult result (λ m. Fresh cells relations m) (λ e. e ≡ OutOfMemory) }
+fn get_memory(heap: Global, cells: usize, relations: usize) -> Result<Memory, AllocError>
+    ensures { IfOk result (Fresh cells relations) }
 {
     let blank = Row {
         figure: 0,
@@ -38,18 +36,18 @@ fn get_memory(heap: Global, cells: usize, relations: usize) -> Result<Memory, Re
         mark: Mark::Open,
     };
     Ok(Memory {
-        records: Vec::with_capacity(heap, RECORDS)?,
+        records: Vec::with_capacity(heap, MOST_CONTRIBUTIONS)?,
         heads: vec![in heap; None; cells]?,
-        pending: Vec::with_capacity(heap, RECORDS)?,
-        seen: vec![in heap; false; RECORDS]?,
+        pending: Vec::with_capacity(heap, MOST_CONTRIBUTIONS)?,
+        seen: vec![in heap; false; MOST_CONTRIBUTIONS]?,
         rows: vec![in heap; blank; cells]?,
         bench: get_bench(heap, cells, relations)?,
     })
 }
 
-fn copy_network<L: Layout>(heap: Global, layout: &L) -> Result<Network, Refusal>
+fn copy_network<L: Layout>(heap: Global, layout: &L) -> Result<Network, AllocError>
     requires { admissible (L.shape layout.now) ≡ true }
-    ensures { MatchResult result (λ n. Same (L.shape layout.now) (shape_of n)) (λ e. e ≡ OutOfMemory) }
+    ensures { IfOk result (λ n. Same (L.shape layout.now) (shape_of n)) }
 {
     Ok(Network {
         relations: layout.relations(),
@@ -57,15 +55,20 @@ fn copy_network<L: Layout>(heap: Global, layout: &L) -> Result<Network, Refusal>
     })
 }
 
+// Whether a layout is within the limits.
+pub fn is_admissible<L: Layout>(layout: &L) -> bool
+    ensures { result ≡ admissible (L.shape layout.now) }
+{
+    layout.cells() <= MOST_CELLS && layout.relations() <= MOST_RELATIONS
+}
+
 pub fn admit<L: Layout>(heap: Global, layout: &L) -> Result<Admitted, Refusal>
     ensures { MatchResult result (λ a. (admissible (L.shape layout.now) ≡ true) × Same (L.shape layout.now) (shape_of a.network)) (λ e. e ≡ layout_refusal (L.shape layout.now)) }
 {
-    let cells = layout.cells();
-    let relations = layout.relations();
-    if cells > MOST_CELLS || relations > MOST_RELATIONS {
+    if !is_admissible(layout) {
         return Err(Refusal::LayoutTooLarge);
     }
     let network = copy_network(heap, layout)?;
-    let memory = get_memory(heap, cells, relations)?;
+    let memory = get_memory(heap, layout.cells(), layout.relations())?;
     Ok(Admitted { network, memory })
 }

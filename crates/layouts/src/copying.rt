@@ -1,17 +1,15 @@
 // A layout is asked for each of its answers once.
-ghost use Rattle.std.specs.Prelude.{◌≡◌, ◌<◌, MatchResult};
-ghost use Rattle.refusals.specs.declared.Refusal.TheVariants.{OutOfMemory};
+ghost use Rattle.std.specs.Prelude.{◌≡◌, ◌<◌, IfOk};
 ghost use Rattle.layouts.specs.Admission.{EdgeOf, EdgesOf};
 ghost use Rattle.layouts.specs.Copied.{marks_of, values};
 
 use crate::network::Edge;
 use crate::{Kind, Layout};
-use refusals::Refusal;
-use std::alloc::Global;
+use std::alloc::{AllocError, Global};
 
 // Under which cells a leaf counts, a mark for each cell; a total counts under none.
-fn copy_marks<L: Layout>(heap: Global, layout: &L, leaf: usize) -> Result<Vec<bool>, Refusal>
-    ensures { MatchResult result (λ v. v.items ≡ values (L.shape layout.now).cells (marks_of (L.shape layout.now) leaf)) (λ e. e ≡ OutOfMemory) }
+fn copy_marks<L: Layout>(heap: Global, layout: &L, leaf: usize) -> Result<Vec<bool>, AllocError>
+    ensures { IfOk result (λ v. v.items ≡ values (L.shape layout.now).cells (marks_of (L.shape layout.now) leaf)) }
 {
     let mut under = Vec::new(heap);
     for cell in 0..layout.cells() {
@@ -20,9 +18,9 @@ fn copy_marks<L: Layout>(heap: Global, layout: &L, leaf: usize) -> Result<Vec<bo
     Ok(under)
 }
 
-fn copy_edge<L: Layout>(heap: Global, layout: &L, cell: usize) -> Result<Edge, Refusal>
+fn copy_edge<L: Layout>(heap: Global, layout: &L, cell: usize) -> Result<Edge, AllocError>
     requires { cell < (L.shape layout.now).cells }
-    ensures { MatchResult result (EdgeOf (L.shape layout.now) cell) (λ e. e ≡ OutOfMemory) }
+    ensures { IfOk result (EdgeOf (L.shape layout.now) cell) }
 {
     Ok(Edge {
         leaves: layout.leaves(cell).unwrap(),
@@ -32,8 +30,8 @@ fn copy_edge<L: Layout>(heap: Global, layout: &L, cell: usize) -> Result<Edge, R
     })
 }
 
-pub(crate) fn copy_edges<L: Layout>(heap: Global, layout: &L) -> Result<Vec<Edge>, Refusal>
-    ensures { MatchResult result (λ v. EdgesOf (L.shape layout.now) (L.shape layout.now).cells v.items) (λ e. e ≡ OutOfMemory) }
+pub(crate) fn copy_edges<L: Layout>(heap: Global, layout: &L) -> Result<Vec<Edge>, AllocError>
+    ensures { IfOk result (λ v. EdgesOf (L.shape layout.now) (L.shape layout.now).cells v.items) }
 {
     let mut edges = Vec::new(heap);
     for cell in 0..layout.cells() {

@@ -92,7 +92,9 @@ impl Layout for Grid {
     }
 
     fn counts(&self, cell: usize, leaf: usize) -> Option<bool> {
-        let _ = self.place(cell)?;
+        if cell >= self.cells() {
+            return None;
+        }
         let Place::Inside(row, column) = self.place(leaf)? else {
             return None;
         };

@@ -1,17 +1,17 @@
 -- A layout and its copy take in the same contributions, and these give the cells the same figures and needs.
 use Rattle.std.proofs.Common.{◌≡◌, ℕ, zero, suc, ◌+◌, ◌<◌, ◌≤◌, Bool, true, false, cond, not, ◌&&◌, leb, ltb, Some, None, Option, is_some, List, [], ◌∷◌, ◌++◌, get_or, set, replicate, Err, sum, Result, refl, ap, ◌∙◌, arith}
 use Rattle.std.proofs.lemmas.Bool.Decides.{nat_tests}
+use Rattle.std.specs.Result.{result_and}
 use Rattle.refusals.specs.declared.Refusal.{Refusal}
 use Rattle.refusals.specs.declared.Refusal.TheVariants.{NotALeaf, AmountTooLarge, LinkTooLarge, RecordReached}
 use Rattle.layouts.specs.Shape.{Shape, Laws, Same}
 use Rattle.layouts.specs.declared.memory.Contribution.{Contribution}
 use Rattle.layouts.specs.declared.memory.Row.{Row}
 use Rattle.layouts.proofs.Kept.{leaf_below, leaf_is, same_is_leaf, same_laws}
-use Rattle.rules.specs.Telling.{and_then}
 use Rattle.readings.specs.Rows.{looked_at}
 use Rattle.intake.specs.Contributions.{amounts_under}
 use Rattle.intake.specs.Entering.{enter_answer}
-use Rattle.intake.specs.Deposit.{contribution, next, head, unseen, after_these, chain, walk, counted, and_read, deposited}
+use Rattle.intake.specs.Deposit.{contribution, next, head, unseen, after_these, chain, walk, counted, record_count, deposited}
 use Rattle.intake.specs.Settling.{settled_rows}
 use Rattle.intake.proofs.Figures.{AtLeaves, figures_are, needs_are}
 use Rattle.office.specs.Office.{figures_by, entered_after}
@@ -24,7 +24,7 @@ module _ (s t : Shape) (same : Same s t) where
 
   pub entered_same : (held xs : List Contribution) → entered_after t held xs ≡ entered_after s held xs
   entered_same held [] = refl
-  entered_same held (x ∷ xs) = λ i. and_then (enter_same held x i) (entered_same (held ++ x ∷ []) xs i)
+  entered_same held (x ∷ xs) = λ i. result_and (enter_same held x i) (entered_same (held ++ x ∷ []) xs i)
 
   -- A DEPOSIT
   module _ (bytes : List ℕ) (q : ℕ) where
@@ -52,7 +52,7 @@ module _ (s t : Shape) (same : Same s t) where
   deposited_same held bytes =
       let walks : (q : ℕ) → walk t bytes q t.cells 0 (replicate q false) ≡ walk s bytes q s.cells 0 (replicate q false) =
       λ q. ap (λ m. walk t bytes q m 0 (replicate q false)) same.cells ∙ walk_same bytes q s.cells 0 (replicate q false) (omega arith) in
-      λ i. and_read (counted (same.cells i) held bytes) (λ q. walks q i)
+      λ i. result_and (counted (same.cells i) held bytes) (walks (record_count bytes) i)
 
   -- FIGURES AND NEEDS
   amounts_same : (xs : List Contribution) → AtLeaves t xs → (c : ℕ) → c < s.cells → amounts_under t xs c ≡ amounts_under s xs c

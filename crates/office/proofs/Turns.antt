@@ -4,6 +4,7 @@ use Rattle.std.proofs.lemmas.Bool.Decides.{nat_tests}
 use Rattle.std.proofs.lemmas.Bool.{cond-true}
 use Rattle.std.proofs.lemmas.Result.{MatchResult-weaker, MatchResult-at_ok, MatchResult-at_err}
 use Rattle.std.specs.Fn.{Once, FnOnceReturnsAtMut}
+use Rattle.std.specs.Result.{result_and}
 use Rattle.refusals.specs.declared.Refusal.{Refusal}
 use Rattle.refusals.specs.declared.Refusal.TheVariants.{MemorySize, LayoutTooLarge}
 use Rattle.refusals.specs.Refusals.{side_of}
@@ -15,7 +16,7 @@ use Rattle.readings.specs.Exposure.{Figures, audit}
 use Rattle.readings.specs.Rows.{looked_at}
 use Rattle.intake.specs.declared.held.Intake.{Intake}
 use Rattle.intake.specs.Chains.{held}
-use Rattle.intake.specs.Deposit.{deposited, load_answer, held_then}
+use Rattle.intake.specs.Deposit.{deposited, record_count, held_then}
 use Rattle.intake.specs.Settling.{settled_rows}
 use Rattle.intake.proofs.Figures.{AtLeaves}
 use Rattle.runs.specs.Acts.{print, witness, Answer, refused, count, page, table, Act, Standing, step, accepted, Right, exposure, withheld, page_of, refusal, unless, WitnessAnswer, Witnesses}
@@ -64,7 +65,7 @@ module _ {R : Type 0} (s : Shape) (before after : Intake R) (r : Result (Unit {0
 
   pub filled_loaded : (bytes : List ℕ)
       → held (vec_items after.chains.records) ≡ held_then (deposited (shape_of before.network) (length (held (vec_items before.chains.records))) bytes) (held (vec_items before.chains.records))
-      → (q : Result ℕ Refusal) × (q ≡ load_answer (deposited (shape_of before.network) (length (held (vec_items before.chains.records))) bytes) bytes)
+      → (q : Result ℕ Refusal) × (q ≡ result_and (deposited (shape_of before.network) (length (held (vec_items before.chains.records))) bytes) (Ok (record_count bytes)))
       × MatchResult q (λ _. r ≡ Ok tt) (λ e. r ≡ Err e)
       → Filled (deposited s 0 bytes) before r after
   filled_loaded bytes now_held (q, is, maps) = record {
@@ -77,11 +78,11 @@ module _ {R : Type 0} (s : Shape) (before after : Intake R) (r : Result (Unit {0
 
       go : (d : Result (List Contribution) Refusal) → deposited s 0 bytes ≡ d → MatchResult r (λ _. deposited s 0 bytes ≡ Ok (held (vec_items after.chains.records))) (λ e. deposited s 0 bytes ≡ Err e)
       go (Ok xs) e =
-          let loaded = MatchResult-at_ok (λ _. r ≡ Ok tt) (λ e. r ≡ Err e) _ (is ∙ ap (λ d. load_answer d bytes) (copied ∙ e)) maps in
+          let loaded = MatchResult-at_ok (λ _. r ≡ Ok tt) (λ e. r ≡ Err e) _ (is ∙ ap (λ d. result_and d (Ok (record_count bytes))) (copied ∙ e)) maps in
           let holds : held (vec_items after.chains.records) ≡ xs = now_held ∙ (λ i. held_then ((copied ∙ e) i) (none i)) in
           rw loaded (e ∙ ap Ok (sym holds))
       go (Err x) e =
-          let refuses = MatchResult-at_err (λ _. r ≡ Ok tt) (λ e. r ≡ Err e) _ (is ∙ ap (λ d. load_answer d bytes) (copied ∙ e)) maps in
+          let refuses = MatchResult-at_err (λ _. r ≡ Ok tt) (λ e. r ≡ Err e) _ (is ∙ ap (λ d. result_and d (Ok (record_count bytes))) (copied ∙ e)) maps in
           rw refuses e
 
 pub answers_by : (s : Shape) (m n : List ℕ → ℕ) → m ≡ n → (taken : Result (List Contribution) Refusal) (xs : List Contribution) → taken ≡ Ok xs

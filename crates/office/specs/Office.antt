@@ -1,11 +1,11 @@
 -- What an office takes in, and what all its answers together are.
 use Rattle.std.specs.Prelude.{◌≡◌, ℕ, cond, ◌⊎◌, List, [], ◌∷◌, ◌++◌, length, Ok, Err, MatchResult, Result, vec_items}
+use Rattle.std.specs.Result.{result_and}
 use Rattle.refusals.specs.declared.Refusal.{Refusal}
 use Rattle.refusals.specs.declared.Refusal.TheVariants.{LayoutTooLarge, OutOfMemory}
 use Rattle.layouts.specs.Shape.{Shape, Same}
 use Rattle.layouts.specs.Admission.{admissible, shape_of}
 use Rattle.layouts.specs.declared.memory.Contribution.{Contribution}
-use Rattle.rules.specs.Telling.{and_then}
 use Rattle.readings.specs.Exposure.{Figures}
 use Rattle.intake.specs.declared.held.Intake.{Intake}
 use Rattle.intake.specs.Chains.{held}
@@ -24,7 +24,7 @@ figures_by s meaning xs = record { shape = s; figure = figure_of s xs; need = ne
 -- what is held once these are entered too, one after another; or the first refusal
 abbrev pub entered_after : Shape → List Contribution → List Contribution → Result (List Contribution) Refusal
 entered_after s held [] = Ok held
-entered_after s held (x ∷ xs) = and_then (enter_answer s held x) (entered_after s (held ++ x ∷ []) xs)
+entered_after s held (x ∷ xs) = result_and (enter_answer s held x) (entered_after s (held ++ x ∷ []) xs)
 
 abbrev pub entered : Shape → List Contribution → Result (List Contribution) Refusal
 entered s xs = entered_after s [] xs

@@ -1,6 +1,7 @@
 // The acts of an office and what each delivers, as a caller hands them over and gets it back.
 use layouts::admission::MOST_CELLS;
 use page::LINE;
+use refusals::Refusal;
 
 // The page of an admitted layout is no longer.
 pub const LONGEST_PAGE: usize = LINE * MOST_CELLS;
@@ -28,3 +29,6 @@ pub enum Answer {
     Page(Vec<u8>),
     Table(Vec<u64>),
 }
+
+// What comes of an act.
+pub type Outcome = Result<Answer, Refusal>;

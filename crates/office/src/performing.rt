@@ -4,23 +4,17 @@ ghost use Rattle.runs.specs.Acts.{print, witness};
 ghost use Rattle.sheet.specs.Sheets.{Acted};
 ghost use Rattle.office.specs.Histories.{act_of, answer_of};
 
-use crate::acts::{Act, Answer, LONGEST_PAGE};
+use crate::acts::{Act, Answer, LONGEST_PAGE, Outcome};
 use layouts::admission::MOST_CELLS;
-use refusals::Refusal;
 use sheet::Sheet;
 use std::alloc::{AllocError, Global};
 
 // Prints into as many bytes as are asked for, or as the longest page has where that is less.
-fn print_page(
-    heap: Global,
-    sheet: &mut Sheet,
-    memory: usize,
-) -> Result<Result<Answer, Refusal>, AllocError>
+fn print_page(heap: Global, sheet: &mut Sheet, memory: usize) -> Result<Outcome, AllocError>
     ensures acted { IfOk result (λ a. Acted sheet.old (print memory) (answer_of a) sheet.new) }
     ensures unchanged { OnErr result (sheet.new ≡ sheet.old) }
 {
-    let mut bytes = Vec::new(heap);
-    bytes.resize(memory.min(LONGEST_PAGE), 0)?;
+    let mut bytes = vec![in heap; 0; memory.min(LONGEST_PAGE)]?;
     Ok(
         sheet.print(&mut bytes).map(|count| {
             bytes.truncate(count);
@@ -36,12 +30,11 @@ fn write_table(
     cell: usize,
     side: usize,
     memory: usize,
-) -> Result<Result<Answer, Refusal>, AllocError>
+) -> Result<Outcome, AllocError>
     ensures acted { IfOk result (λ a. Acted sheet.old (witness cell side memory) (answer_of a) sheet.new) }
     ensures unchanged { OnErr result (sheet.new ≡ sheet.old) }
 {
-    let mut figures = Vec::new(heap);
-    figures.resize(memory.min(MOST_CELLS), 0)?;
+    let mut figures = vec![in heap; 0; memory.min(MOST_CELLS)]?;
     Ok(
         sheet.witness(cell, side, &mut figures).map(|count| {
             figures.truncate(count);
@@ -51,11 +44,7 @@ fn write_table(
 }
 
 // Performs the act, in memory got for it beforehand. Want of memory leaves the sheet as it was.
-pub(crate) fn perform(
-    heap: Global,
-    sheet: &mut Sheet,
-    act: &Act,
-) -> Result<Result<Answer, Refusal>, AllocError>
+pub(crate) fn perform(heap: Global, sheet: &mut Sheet, act: &Act) -> Result<Outcome, AllocError>
     ensures acted { IfOk result (λ a. Acted sheet.old (act_of act.now) (answer_of a) sheet.new) }
     ensures unchanged { OnErr result (sheet.new ≡ sheet.old) }
 {

@@ -11,7 +11,7 @@ ghost use Rattle.runs.specs.Acts.{fresh};
 ghost use Rattle.sheet.specs.Sheets.{figures_of, stands};
 ghost use Rattle.office.specs.Office.{Answers, Fills, Ran, Refuses, entered, entered_after, figures_by, taken_in};
 
-use crate::acts::{Act, Answer};
+use crate::acts::{Act, Outcome};
 use crate::performing::perform;
 use intake::held::Intake;
 use layouts::Layout;
@@ -23,11 +23,7 @@ use sheet::Sheet;
 use std::alloc::{AllocError, Global};
 
 // Performs the acts in their order, each on what its predecessor left, a refused one too.
-fn run_acts(
-    heap: Global,
-    mut sheet: Sheet,
-    acts: &[Act],
-) -> Result<Vec<Result<Answer, Refusal>>, AllocError>
+fn run_acts(heap: Global, mut sheet: Sheet, acts: &[Act]) -> Result<Vec<Outcome>, AllocError>
     requires { stands sheet ≡ fresh }
     ensures { IfOk result (λ answers. Ran (figures_of sheet) acts.now answers.items) }
 {
@@ -43,7 +39,7 @@ fn settle_and_run<R: Rule + Drop>(
     heap: Global,
     intake: Intake<R>,
     acts: &[Act],
-) -> Result<Vec<Result<Answer, Refusal>>, AllocError>
+) -> Result<Vec<Outcome>, AllocError>
     ensures { (s : Shape) → Laws s → Same s (shape_of intake.network) → IfOk result (λ answers. Ran (figures_by s (R.meaning intake.rule) (held intake.chains.records.items)) acts.now answers.items) }
 {
     run_acts(heap, Sheet::new(intake.settle()), acts)
@@ -67,7 +63,7 @@ fn run_filled<L: Layout, R: Rule + Drop, F: FnOnce(&mut Intake<R>) -> Result<(),
     rule: R,
     fill: F,
     acts: &[Act],
-) -> Result<Vec<Result<Answer, Refusal>>, Refusal>
+) -> Result<Vec<Outcome>, Refusal>
     requires { F.IsAlwaysCallable fill }
     ensures { (asked : Result (List Contribution) Refusal) → Fills (L.shape layout.now) asked (FnOnceReturnsAtMut F.FnOnce fill) → MatchResult result (λ answers. Answers (L.shape layout.now) (R.meaning rule) (taken_in (L.shape layout.now) asked) acts.now answers.items) (λ e. Refuses (taken_in (L.shape layout.now) asked) e) }
 {
@@ -84,7 +80,7 @@ pub fn run<L: Layout, R: Rule + Drop>(
     rule: R,
     contributions: &[Contribution],
     acts: &[Act],
-) -> Result<Vec<Result<Answer, Refusal>>, Refusal>
+) -> Result<Vec<Outcome>, Refusal>
     ensures { MatchResult result (λ answers. Answers (L.shape layout.now) (R.meaning rule) (taken_in (L.shape layout.now) (entered (L.shape layout.now) contributions.now)) acts.now answers.items) (λ e. Refuses (taken_in (L.shape layout.now) (entered (L.shape layout.now) contributions.now)) e) }
 {
     run_filled(
@@ -103,7 +99,7 @@ pub fn run_deposit<L: Layout, R: Rule + Drop>(
     rule: R,
     deposit: &[u8],
     acts: &[Act],
-) -> Result<Vec<Result<Answer, Refusal>>, Refusal>
+) -> Result<Vec<Outcome>, Refusal>
     ensures { MatchResult result (λ answers. Answers (L.shape layout.now) (R.meaning rule) (taken_in (L.shape layout.now) (deposited (L.shape layout.now) 0 deposit.now)) acts.now answers.items) (λ e. Refuses (taken_in (L.shape layout.now) (deposited (L.shape layout.now) 0 deposit.now)) e) }
 {
     run_filled(

@@ -1,7 +1,6 @@
 -- The laws of shops in districts.
-use Rattle.std.specs.Prelude.{◌≡◌, ℕ, ◌+◌, ◌*◌, ◌/◌, ◌<◌, ◌≤◌, true, List, [], ◌∷◌, ◌≢◌, nat_eq, nat_lt, refl}
+use Rattle.std.specs.Prelude.{◌≡◌, ℕ, ◌+◌, ◌*◌, ◌/◌, ◌<◌, ◌≤◌, true, List, [], ◌∷◌, ◌≢◌, nat_eq}
 use Rattle.std.proofs.Common.{sym, ◌∙◌, arith}
-use Rattle.std.proofs.lemmas.Bool.{and_parts, ltb-true}
 use Rattle.std.proofs.lemmas.Bool.Decides.{nat_tests}
 use Rattle.std.proofs.lemmas.Nat.{div_below}
 use Rattle.sums.specs.Sums.{Apart, Within, passing}
@@ -24,26 +23,18 @@ module _ (D S : ℕ) (some : 1 ≤ S) where
   above l = l ∷ (D * S + l / S) ∷ (D * S + D) ∷ []
 
   above_apart : (l : ℕ) → l < D * S → Apart (above l)
-  above_apart l h = let d = district_below l h in (grind (arith, nat_tests), (grind (arith, nat_tests), (refl, tt)))
+  above_apart l h = let d = district_below l h in grind (arith, nat_tests)
 
   above_within : (l : ℕ) → l < D * S → Within (D * S + D + 1) (above l)
-  above_within l h = let d = district_below l h in (omega arith, (omega arith, (omega arith, tt)))
+  above_within l h = let d = district_below l h in grind arith
 
   -- the relations of the cells that a shop counts under go round
   round : (l r : ℕ) → l < D * S → passing (λ c. nat_eq ((districts D S).leaves c) r) (above l) ≡ passing (λ c. nat_eq ((districts D S).enters c) r) (above l)
-  round l r h =
-      let d = district_below l h in
-      let l0 : (districts D S).leaves l ≡ D = grind (arith, nat_tests) in
-      let l1 : (districts D S).leaves (D * S + l / S) ≡ l / S = grind (arith, nat_tests) in
-      let l2 : (districts D S).leaves (D * S + D) ≡ D + 1 = grind (arith, nat_tests) in
-      let e0 : (districts D S).enters l ≡ l / S = grind (arith, nat_tests) in
-      let e1 : (districts D S).enters (D * S + l / S) ≡ D + 1 = grind (arith, nat_tests) in
-      let e2 : (districts D S).enters (D * S + D) ≡ D = grind (arith, nat_tests) in
-      rw (l0, l1, l2, e0, e1, e2) (omega arith)
+  round l r h = let d = district_below l h in grind (arith, nat_tests)
 
   districts_balanced : (l r : ℕ) → is_leaf (districts D S) l ≡ true → leaving (districts D S) l r ≡ entering (districts D S) l r
   districts_balanced l r e =
-      let lt = ltb-true l (D * S) (and_parts (nat_lt l (D * S + D + 1)) (nat_lt l (D * S)) e).1 in
+      let lt : l < D * S = grind (arith, nat_tests) in
       let a = above_apart l lt in
       let w = above_within l lt in
       count_among (D * S + D + 1) (λ c. nat_eq ((districts D S).leaves c) r) (above l) a w

@@ -38,7 +38,7 @@ impl Rule for FewContributors {
     }
 
     fn tell(&mut self, amount: u64) -> Result<(), Refusal> {
-        verdict(amount, self.count)?;
+        verdict(0, amount, self.count)?;
         *self = FewContributors {
             total: self.total + amount,
             count: self.count + 1,

@@ -1,9 +1,9 @@
 -- Writing a page line by line, for any loop that keeps the lines so far and then what the memory held.
-use Rattle.std.proofs.Common.{◌≡◌, ℕ, zero, suc, ◌+◌, ◌*◌, ◌^◌, ◌<◌, ◌≤◌, true, List, ◌++◌, length, drop, None, Option, sym, refl, ap, ◌∙◌, append_assoc, add-one, arith, length-append, length-drop}
+use Rattle.std.proofs.Common.{◌≡◌, ℕ, zero, suc, ◌+◌, ◌*◌, ◌<◌, ◌≤◌, true, List, ◌++◌, length, drop, None, Option, sym, refl, ap, ◌∙◌, append_assoc, add-one, arith, length-append, length-drop}
 use Rattle.std.proofs.lemmas.List.{drop-drop, take_at, drop_at}
-use Rattle.std.proofs.lemmas.Bool.{lt-ltb, le-leb, leb-true, and_from, and_parts, cond-true}
-use Rattle.std.proofs.lemmas.List.Sums.{AllPass-from_list_all}
-use Rattle.std.proofs.lemmas.List.Elements.{All-get_or}
+use Rattle.std.proofs.lemmas.Bool.{cond-true}
+use Rattle.std.proofs.lemmas.List.Folds.{list_all_at}
+use Rattle.std.proofs.lemmas.Bool.Decides.{nat_tests}
 use Rattle.page.specs.Page.{line, page, fits}
 use Rattle.page.specs.Writing.{line_room, line_over, line_left, shown_entry, page_room}
 use Rattle.page.specs.Laws.{Printable}
@@ -30,10 +30,7 @@ page_same (suc n) shows other h = rw (page_same n shows other (λ c l. h c (omeg
 -- WHERE THERE IS ROOM
 pub room_printable : (size : ℕ) (xs : List (Option ℕ)) → page_room size xs ≡ true → Printable (length xs) (shown_entry xs) × (19 * length xs ≤ size)
 room_printable size xs h =
-    let a = and_parts _ _ h in
-    let b = and_parts _ _ a.1 in
-    let all = AllPass-from_list_all fits xs b.0 in
-    (record { few = leb-true _ _ a.0; fit = λ c l. All-get_or (λ s. fits s ≡ true) xs c None l all }, leb-true _ _ b.1)
+    (record { few = grind (arith, nat_tests); fit = λ c l. grind (arith, nat_tests, list_all_at fits xs c None) }, grind (arith, nat_tests))
 
 -- THE STEPS OF THE LOOP
 -- before the first line
@@ -47,9 +44,10 @@ module _ (cells : ℕ) (shows : ℕ → Option ℕ) (before : List ℕ) (p : Pri
   pub room_more : line_room (length memory) c (shows c) ≡ true
   room_more =
       let l = length_page c shows (printable_below c cells shows (omega arith) p) in
-      let few = p.few in
       let long : length memory ≡ length before = ap length so_far ∙ simp (length-append (page c shows), length-drop) (omega arith) in
-      and_from _ _ (lt-ltb c (10 ^ 4) (omega arith)) (and_from _ _ (p.fit c h) (le-leb (19 * c + 19) (length memory) (omega arith)))
+      let fit = p.fit c h in
+      let few = p.few in
+      grind (arith, nat_tests)
 
   -- the next line
   pub over_more : line_over memory c (shows c) ≡ page (c + 1) shows ++ drop (19 * (c + 1)) before

@@ -16,4 +16,4 @@ edge_inside n c e l is =
     let h : c < length (vec_items n.edges) = omega (arith, n.edges.ok.0) in
     let a = ap (λ (x : Edge). x.leaves) is ∙ sym (get_or-map (λ x. x.leaves) (vec_items n.edges) c e 0 h) in
     let b = ap (λ (x : Edge). x.enters) is ∙ sym (get_or-map (λ x. x.enters) (vec_items n.edges) c e 0 h) in
-    (omega (arith, a, n.left c l), omega (arith, b, n.entered c l))
+    (omega (arith, a, n.lawful.left c (omega (arith, n.edges.ok.0))), omega (arith, b, n.lawful.entered c (omega (arith, n.edges.ok.0))))

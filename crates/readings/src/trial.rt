@@ -83,9 +83,7 @@ fn try_cell(
     while left > 0 {
         if change(network, guard.view(), table, reached, side, amount, cell) {
             left -= amount;
-            if amount > left {
-                amount = left;
-            }
+            amount = amount.min(left);
         } else if amount > 1 {
             amount /= 2;
         } else {

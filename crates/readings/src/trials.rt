@@ -1,8 +1,5 @@
 // What the engine is lent for an audit or a witness.
-ghost use Rattle.std.specs.Prelude.{◌≡◌, ℕ, ◌<◌, true, vec_len};
-ghost use Rattle.readings.specs.Paths.{withheld_by};
-ghost use Rattle.readings.specs.Rows.{needs};
-ghost use Rattle.readings.specs.Tables.{Fits, Tabled};
+ghost use Rattle.readings.specs.Tables.{Lent};
 
 use layouts::memory::{Bench, Row};
 use layouts::network::Network;
@@ -13,7 +10,5 @@ pub struct Trials<'a> {
     pub bench: &'a mut Bench,
     pub network: &'a Network,
     pub rows: &'a [Row],
-    ghost tabled: { Tabled network.now rows.now },
-    ghost fits: { Fits network.now bench.now },
-    ghost hidden: { (c : ℕ) → c < vec_len network.now.edges → 0 < needs rows.now c → withheld_by bench.now.covers.items c ≡ true },
+    ghost lent: { Lent network.now rows.now bench.now },
 }

@@ -27,7 +27,7 @@ pub trait Rule {
         ensures same { (xs : List ℕ) → meaning self.new xs ≡ meaning self.old xs };
 
     fn tell(&mut self, amount: u64) -> Result<(), Refusal>
-        ensures refused { (xs : List ℕ) → stands self.old xs → result ≡ verdict amount (length xs) }
+        ensures refused { (xs : List ℕ) → stands self.old xs → result ≡ verdict 0 amount (length xs) }
         ensures stands { (xs : List ℕ) → stands self.old xs → stands self.new (after result xs amount) }
         ensures same { (xs : List ℕ) → meaning self.new xs ≡ meaning self.old xs };
 

@@ -1,4 +1,4 @@
-// One amount more in a summary.
+// Which amounts a rule takes, and one amount more in a summary.
 ghost use Rattle.std.specs.Prelude.{◌≡◌, ℕ, ◌≤◌, min, List, [], length};
 ghost use Rattle.rules.specs.Largest.{n_largest};
 ghost use Rattle.rules.specs.Needs.{remainder};
@@ -12,12 +12,12 @@ pub const LARGEST_AMOUNT: u64 = 1_000_000_000;
 
 pub const MOST_CONTRIBUTIONS: usize = 2_048;
 
-// Whether a rule takes the amount, after so many others.
-pub fn verdict(amount: u64, count: usize) -> Result<(), Refusal>
-    ensures { result ≡ verdict amount count }
+// Whether the amount of a cell is taken, after so many others. A rule by itself knows no cell, and names 0.
+pub fn verdict(cell: usize, amount: u64, count: usize) -> Result<(), Refusal>
+    ensures { result ≡ verdict cell amount count }
 {
     if amount > LARGEST_AMOUNT {
-        return Err(Refusal::AmountTooLarge { cell: 0 });
+        return Err(Refusal::AmountTooLarge { cell });
     }
     if count >= MOST_CONTRIBUTIONS {
         return Err(Refusal::TooManyContributions);
@@ -40,10 +40,10 @@ impl Summary {
 
     // At each of the three places the larger stays, and the smaller goes on.
     pub fn add(&mut self, amount: u64) -> Result<(), Refusal>
-        ensures refused { (xs : List ℕ) → Told self.old xs → result ≡ verdict amount (length xs) }
+        ensures refused { (xs : List ℕ) → Told self.old xs → result ≡ verdict 0 amount (length xs) }
         ensures stands { (xs : List ℕ) → Told self.old xs → Told self.new (after result xs amount) }
     {
-        verdict(amount, self.count)?;
+        verdict(0, amount, self.count)?;
         let past_first = amount.min(self.first);
         let past_second = past_first.min(self.second);
         *self = Summary {

@@ -1,4 +1,4 @@
--- Answers, and what a call owes that began by setting the mark bytes.
+-- Answers, and what a call owes that began by setting the covers.
 use Rattle.std.proofs.Common.{◌≡◌, None, Ok, Some, Option, Result, refl, ap, ◌∙◌, subst}
 use Rattle.refusals.specs.declared.Refusal.{Refusal}
 use Rattle.readings.specs.Exposure.{Figures}
@@ -16,7 +16,7 @@ pub no_reason : (o : Option Refusal) → ◌≡◌ {A = Result (Unit {0}) Refusa
 no_reason (Some s) e = cc
 no_reason None e = refl
 
--- what acts on the sheet with its mark bytes set has acted on the sheet
+-- what acts on the sheet with its covers set has acted on the sheet
 pub acted_on : (s t after : Sheet) (act : Act) (a : Answer) → SameTable s t → Acted t act a after → Acted s act a after
 acted_on s t after act a same acted = record {
   does =

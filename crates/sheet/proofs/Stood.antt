@@ -8,10 +8,11 @@ use Rattle.layouts.specs.declared.memory.Cover.TheVariants.{Shown}
 use Rattle.readings.specs.Exposure.{Figures, audit}
 use Rattle.readings.specs.Paths.{withheld_by}
 use Rattle.readings.specs.Rows.{needs}
+use Rattle.readings.specs.Tables.{CoverNeeds}
 use Rattle.runs.specs.Acts.{Standing, withheld}
 use Rattle.sheet.specs.declared.held.Sheet.{Sheet}
 use Rattle.sheet.specs.Sheets.{rows_of, figures_of, stands}
-use Rattle.sheet.specs.Trying.{covers_of, Hidden, SameTable}
+use Rattle.sheet.specs.Trying.{covers_of, SameTable}
 use Rattle.sheet.proofs.Facts.{same_table_figures}
 use Rattle.sheet.proofs.Halfway.{half_none, covers_half}
 
@@ -26,7 +27,7 @@ module _ (s t : Sheet) (same : SameTable s t) (covers : vec_items t.bench.covers
   pub covers_stood : withheld_by (vec_items t.bench.covers) ≡ withheld (figures_of s) (stands s)
   covers_stood = fun_ext stood
 
-  pub stood_hidden : Hidden (figures_of t) (vec_items t.bench.covers)
+  pub stood_hidden : CoverNeeds (figures_of t) (vec_items t.bench.covers)
   stood_hidden c l n =
       stood c ∙ or_left (ltb 0 ((figures_of s).need c)) _ (ap (λ (G : Figures). ltb 0 (G.need c)) (sym (same_table_figures s t same)) ∙ lt-ltb 0 (needs (rows_of t) c) n)
 

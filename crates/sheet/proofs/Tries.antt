@@ -13,6 +13,7 @@ use Rattle.sums.proofs.SumBelow.{sum_but, sum_none, count_le}
 use Rattle.readings.specs.Exposure.{Figures, audit}
 use Rattle.readings.specs.Paths.{withheld_by}
 use Rattle.readings.specs.Rows.{needs}
+use Rattle.readings.specs.Tables.{CoverNeeds}
 use Rattle.intake.specs.Marks.{mark_at}
 use Rattle.runs.specs.Acts.{Standing, withheld, newly, opened, reopen, searched, seek, count}
 use Rattle.sheet.specs.declared.held.Sheet.{Sheet}
@@ -20,16 +21,16 @@ use Rattle.sheet.specs.declared.events.Event.TheVariants.{Added}
 use Rattle.sheet.specs.Events.{next_mark}
 use Rattle.sheet.specs.Standing.{is_complement_mark, standing_of}
 use Rattle.sheet.specs.Sheets.{rows_of, figures_of, stands, Acted}
-use Rattle.sheet.specs.Trying.{covers_of, Hidden, SameTable, Tried}
+use Rattle.sheet.specs.Trying.{covers_of, SameTable, Tried}
 use Rattle.sheet.proofs.Facts.{rows_long, covers_long, cells_few, tied_at, same_figures_by, same_table_figures}
 use Rattle.sheet.proofs.Halfway.{half, open_needless, new_open, half_closed, half_none, covers_half, half_old, half_opened, half_added, covers_opened, covers_back}
 use Rattle.sheet.proofs.Marking.{met_figures, met_needs, met_there, met_elsewhere}
 
 -- ONE CELL THAT IS TRIED
 pub tried_hidden : (s t : Sheet) (k : ℕ) → SameTable s t → vec_items t.bench.covers ≡ set (vec_items s.bench.covers) k Shown
-    → Hidden (figures_of s) (set (vec_items s.bench.covers) k Shown) → Hidden (figures_of t) (vec_items t.bench.covers)
+    → CoverNeeds (figures_of s) (set (vec_items s.bench.covers) k Shown) → CoverNeeds (figures_of t) (vec_items t.bench.covers)
 tried_hidden s t k same cover h =
-    subst (Hidden (figures_of t)) (sym cover) (subst (λ (F : Figures). Hidden F (set (vec_items s.bench.covers) k Shown)) (sym (same_table_figures s t same)) h)
+    subst (CoverNeeds (figures_of t)) (sym cover) (subst (λ (F : Figures). CoverNeeds F (set (vec_items s.bench.covers) k Shown)) (sym (same_table_figures s t same)) h)
 
 -- THE WAY DOWN
 -- The cells from i on are decided, and n of them were added.
@@ -132,7 +133,7 @@ module _ {before now : Sheet} (k : ℕ) {n : ℕ} (so_far : Searching before (k 
     covers_shown = covers_opened F (rows_of now) (vec_items now.bench.covers) k in_covers e so_far.covers needless
 
     -- an open cell may be shown
-    pub open_hidden : Hidden (figures_of now) (set (vec_items now.bench.covers) k Shown)
+    pub open_hidden : CoverNeeds (figures_of now) (set (vec_items now.bench.covers) k Shown)
     open_hidden c l h =
         covers_shown c ∙ or_left (ltb 0 (F.need c)) _ (ap (λ (G : Figures). ltb 0 (G.need c)) (sym so_far.same_figures) ∙ lt-ltb 0 (needs (rows_of now) c) h)
 

@@ -1,11 +1,11 @@
 -- The covers that a trial goes by, and what a trial leaves of a sheet.
-use Rattle.std.specs.Prelude.{◌≡◌, ℕ, ◌<◌, Bool, true, cond, List, map, is_some, vec_items, slice_set}
+use Rattle.std.specs.Prelude.{◌≡◌, ℕ, Bool, cond, List, map, is_some, vec_items, slice_set}
 use Rattle.layouts.specs.declared.memory.Cover.{Cover}
 use Rattle.layouts.specs.declared.memory.Cover.TheVariants.{Shown, Withheld}
 use Rattle.layouts.specs.declared.memory.Row.{Row}
 use Rattle.layouts.specs.declared.memory.Mark.{Mark}
 use Rattle.layouts.specs.declared.memory.Mark.TheVariants.{Open, Sensitive, Complement, Printed, Barred}
-use Rattle.readings.specs.Exposure.{Figures, audit}
+use Rattle.readings.specs.Exposure.{audit}
 use Rattle.readings.specs.Paths.{withheld_by}
 use Rattle.sheet.specs.declared.held.Sheet.{Sheet}
 use Rattle.sheet.specs.declared.events.Event.TheVariants.{Added}
@@ -23,10 +23,6 @@ cover_of_mark chosen Barred = Shown
 
 abbrev pub covers_of : Cover → List Row → List Cover
 covers_of chosen rows = map (λ (r : Row). cover_of_mark chosen r.mark) rows
-
--- the covers withhold each cell that has a need
-abbrev pub Hidden : Figures → List Cover → Type 0
-Hidden F covers = (c : ℕ) → c < F.shape.cells → 0 < F.need c → withheld_by covers c ≡ true
 
 -- Nothing but the memory of trials is other than it was.
 pub record SameTable (before after : Sheet) : Type 0 where

@@ -1,11 +1,9 @@
 // A sheet: the layout's answers, the rows of the table, and the memory to try readings with.
-ghost use Rattle.std.specs.Prelude.{◌≡◌, ℕ, ◌<◌, true, vec_len, nat_lt};
-ghost use Rattle.layouts.specs.Admission.{shape_of};
-ghost use Rattle.readings.specs.Exposure.{any_below};
+ghost use Rattle.std.specs.Prelude.{◌≡◌, ℕ, ◌<◌, true, vec_len};
 ghost use Rattle.readings.specs.Rows.{needs};
 ghost use Rattle.readings.specs.Tables.{Fits, Tabled};
 ghost use Rattle.intake.specs.Marks.{mark_at};
-ghost use Rattle.intake.specs.Settling.{is_under};
+ghost use Rattle.intake.specs.Settling.{Grounded};
 ghost use Rattle.sheet.specs.Cells.{goes_with};
 
 use crate::table::Table;
@@ -23,5 +21,5 @@ pub struct Sheet {
     ghost tabled: { Tabled network table.rows.items },
     ghost fits: { Fits network bench },
     ghost tied: { (c : ℕ) → c < vec_len network.edges → goes_with (needs table.rows.items c) (mark_at table.rows.items c) ≡ true },
-    ghost grounded: { (c : ℕ) → c < vec_len network.edges → nat_lt 0 (needs table.rows.items c) ≡ true → any_below (vec_len network.edges) (is_under (shape_of network) c) ≡ true },
+    ghost grounded: { Grounded network table.rows.items },
 }

@@ -1,10 +1,11 @@
 // The search for complements.
 ghost use Rattle.std.specs.Prelude.{◌≡◌, ◌<◌, slice_set};
 ghost use Rattle.layouts.specs.declared.memory.Cover.TheVariants.{Shown};
+ghost use Rattle.readings.specs.Tables.{CoverNeeds};
 ghost use Rattle.runs.specs.Acts.{count, seek};
 ghost use Rattle.sheet.specs.Calls.{search_answer};
 ghost use Rattle.sheet.specs.Sheets.{Acted, figures_of};
-ghost use Rattle.sheet.specs.Trying.{Hidden, Tried};
+ghost use Rattle.sheet.specs.Trying.{Tried};
 
 use crate::events::Event;
 use crate::held::Sheet;
@@ -15,7 +16,7 @@ impl Sheet {
     // whether it does.
     fn try_open(&mut self, cell: usize) -> bool
         requires within { cell < (figures_of self.old).shape.cells }
-        requires hidden { Hidden (figures_of self.old) (slice_set self.old.bench.covers.items cell Shown) }
+        requires hidden { CoverNeeds (figures_of self.old) (slice_set self.old.bench.covers.items cell Shown) }
         ensures { Tried self.old cell result self.new }
     {
         self.set_cover(cell, Cover::Shown);

@@ -2,8 +2,9 @@
 ghost use Rattle.std.specs.Prelude.{◌≡◌, ◌<◌, length, slice_set};
 ghost use Rattle.readings.specs.Exposure.{audit};
 ghost use Rattle.readings.specs.Paths.{withheld_by};
+ghost use Rattle.readings.specs.Tables.{CoverNeeds};
 ghost use Rattle.sheet.specs.Sheets.{figures_of, rows_of};
-ghost use Rattle.sheet.specs.Trying.{Hidden, SameTable, cover_of_mark, covers_of};
+ghost use Rattle.sheet.specs.Trying.{SameTable, cover_of_mark, covers_of};
 
 use crate::held::Sheet;
 use layouts::memory::{Cover, Mark, Row};
@@ -54,7 +55,7 @@ impl Sheet {
 
     // The lowest sensitive cell that is exposed, up before down, where the covers say what is withheld.
     pub(crate) fn audit(&mut self) -> Option<(usize, Side)>
-        requires { Hidden (figures_of self.old) self.old.bench.covers.items }
+        requires { CoverNeeds (figures_of self.old) self.old.bench.covers.items }
         ensures says { result ≡ audit (figures_of self.old) (withheld_by self.old.bench.covers.items) }
         ensures same { SameTable self.old self.new }
         ensures covers { self.new.bench.covers.items ≡ self.old.bench.covers.items }

@@ -21,13 +21,8 @@ mod tests {
         "0000             D\n0001            19\n0002             D\n0003             D\n0004           300\n0005             D\n0006           300\n0007           319\n0008           619\n";
 
     fn page_of(heap: Global, text: &str) -> Result<Vec<u8>, Fail> {
-        match compose_text(heap, text.as_bytes()) {
-            Ok(input) => match suppress(heap, &input) {
-                Ok(page) => Ok(page),
-                Err(_) => Err(Fail::new("refused")),
-            },
-            Err(_) => Err(Fail::new("no deposit")),
-        }
+        let input = compose_text(heap, text.as_bytes()).map_err(|_| Fail::new("no deposit"))?;
+        suppress(heap, &input).map_err(|_| Fail::new("refused"))
     }
 
     #[test]

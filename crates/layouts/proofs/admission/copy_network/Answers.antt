@@ -1,5 +1,5 @@
 -- The copy gives the layout's answers, so the layout's laws are its laws.
-use Rattle.std.proofs.Common.{◌≡◌, ℕ, ◌<◌, leb, length, vec_items, vec_len, ap, ◌∙◌, sym, arith}
+use Rattle.std.proofs.Common.{◌≡◌, leb, length, vec_items, vec_len, ap, ◌∙◌, sym, arith}
 use Rattle.std.proofs.lemmas.Bool.{and_parts, leb-true}
 use Rattle.layouts.specs.Copied.{copied, marks_of}
 use Rattle.layouts.proofs.Kept.{copied_same, edges_length, edges_under, same_laws}
@@ -16,16 +16,10 @@ invariant_of-result g c =
     let limits = and_parts (leb s.cells 512) (leb s.relations 128) c.requires in
     let laws = same_laws s (copied n (vec_items v)) (copied_same s n (vec_items v) c.relations.ensures of) (g.met.L.Layout.lawful x) in
     let cells : vec_len v ≡ s.cells = v.ok.0 ∙ edges_length s n (vec_items v) c.relations.ensures of in
-    let below : (k : ℕ) → k < vec_len v → k < length (vec_items v) = λ k h. omega (arith, v.ok.0) in
     record {
       small = (omega (arith, cells, leb-true s.cells 512 limits.0), omega (arith, c.relations.ensures, leb-true s.relations 128 limits.1));
       square = λ l h. ap length (edges_under s n (vec_items v) c.relations.ensures of l (omega (arith, cells))) ∙ length_values s.cells (marks_of s l) ∙ sym cells;
-      left = λ k h. laws.left k (below k h);
-      entered = λ k h. laws.entered k (below k h);
-      apart = λ k h. laws.apart k (below k h);
-      itself = laws.itself;
-      alone = laws.alone;
-      balanced = laws.balanced;
+      lawful = laws;
     }
 
 pub returns : goal.returns

@@ -9,8 +9,8 @@ use Rattle.office.proofs.performing.write_table.Goals as goal
 
 pub returns-clause-acted : goal.returns-clause-acted
 returns-clause-acted c =
-    let size = c.deref_mut.ensures.len ∙ c.in_ok-resize.ensures.len ∙ c.min.ensures in
-    let whole = with_items_is c.resize.new.self c.witness.new.memory (c.witness.auto.memory ∙ c.deref_mut.ensures.len) in
+    let size = c.deref_mut.ensures.len ∙ c.in_ok-figures.ensures.len ∙ c.min.ensures in
+    let whole = with_items_is c.in_ok-figures.figures c.witness.new.memory (c.witness.auto.memory ∙ c.deref_mut.ensures.len) in
     subst (λ a. Acted c.args.sheet.now (witness c.args.cell c.args.side c.args.memory) a c.witness.new.self)
     (answer_made c.witness.result c.map.result _ (λ r. tabled r c.witness.new.memory) c.map.ensures.cases (λ n a k. search rules) (λ e. refl))
     (witnessed_in _ _ _ c.args.cell c.args.side c.args.memory (length c.deref_mut.result.now) size c.witness.ensures.acted)

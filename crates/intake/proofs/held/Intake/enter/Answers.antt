@@ -1,6 +1,7 @@
 -- The new record is at a leaf.
 use Rattle.std.proofs.Common.{◌≡◌, ℕ, ◌<◌, true, ltb, List, [], ◌∷◌, length, get_or, vec_items, ap, ◌∙◌, arith}
 use Rattle.std.proofs.lemmas.Bool.{and_from, lt-ltb}
+use Rattle.std.proofs.lemmas.Bool.Decides.{nat_tests}
 use Rattle.layouts.specs.Admission.{shape_of}
 use Rattle.layouts.specs.Shape.{is_leaf}
 use Rattle.layouts.specs.declared.network.Edge.{Edge}
@@ -18,4 +19,4 @@ pub invariant_of-self-clause-leafy : goal.invariant_of-self-clause-leafy
 invariant_of-self-clause-leafy g c =
     let s = c.args.self.now in
     let leaf = leaf_found s.network _ c.args.x.leaf c.in-Some.edge.now c.deref.ensures.value c.in-Some.ensures.lookup.3 c.if-not-edge.false in
-    leafy_after (shape_of s.network) s.chains.records c.append.new.self.records (c.args.x ∷ []) s.leafy (leaf, c.if-x-gt-LARGEST_AMOUNT.false, tt) c.append.ensures.held
+    leafy_after (shape_of s.network) s.chains.records c.append.new.self.records (c.args.x ∷ []) s.leafy (leaf, grind (arith, nat_tests, c.in_ok-verdict.ensures), tt) c.append.ensures.held

@@ -1,14 +1,18 @@
-use Rattle.std.proofs.Common.{◌<◌, List, sym, subst, arith}
+use Rattle.std.proofs.Common.{List, vec_items, sym, subst}
+use Rattle.layouts.specs.Admission.{shape_of}
 use Rattle.layouts.specs.declared.memory.Row.{Row}
-use Rattle.readings.specs.Rows.{needs}
-use Rattle.readings.specs.Tables.{Tabled}
+use Rattle.readings.specs.Rows.{looked_at}
+use Rattle.readings.specs.Tables.{CoverNeeds, Tabled}
 use Rattle.sheet.proofs.held.Sheet.audit.Goals as goal
 
 pub invariant_of-audit : goal.invariant_of-audit
 invariant_of-audit c =
     let s = c.args.self.now in
+    let same = sym c.as_slice.ensures.value in
     record {
-      tabled = subst (Tabled s.network) (sym c.as_slice.ensures.value) s.tabled;
-      fits = s.fits;
-      hidden = λ x l n. c.requires x (omega (arith, s.network.edges.ok.0)) (subst (λ (xs : List Row). 0 < needs xs x) c.as_slice.ensures.value n);
+      lent = record {
+        tabled = subst (Tabled s.network) same s.tabled;
+        fits = s.fits;
+        hidden = subst (λ (rows : List Row). CoverNeeds (looked_at (shape_of s.network) rows) (vec_items s.bench.covers)) same c.requires;
+      };
     }

@@ -1,19 +1,24 @@
 -- What the engine answers and writes is the witness of the sheet as it stands.
-use Rattle.std.proofs.Common.{ℕ, ◌<◌, List, sym, refl, subst, arith}
+use Rattle.std.proofs.Common.{ℕ, List, vec_items, sym, refl, subst}
+use Rattle.layouts.specs.Admission.{shape_of}
 use Rattle.layouts.specs.declared.memory.Row.{Row}
 use Rattle.sheet.proofs.Borne.{witness_answers, witness_acted, witness_beyond}
 use Rattle.sheet.proofs.Stood.{stood_hidden}
-use Rattle.readings.specs.Rows.{needs}
-use Rattle.readings.specs.Tables.{Tabled}
+use Rattle.readings.specs.Rows.{looked_at}
+use Rattle.readings.specs.Tables.{CoverNeeds, Tabled}
 use Rattle.sheet.proofs.held.Sheet.witness.Goals as goal
 
 pub invariant_of-witness : goal.invariant_of-witness
 invariant_of-witness c =
     let t = c.set_covers.new.self in
+    let same = sym c.as_slice.ensures.value in
     record {
-      tabled = subst (Tabled t.network) (sym c.as_slice.ensures.value) t.tabled;
-      fits = t.fits;
-      hidden = λ x l n. stood_hidden c.args.self.now t c.set_covers.ensures.same c.set_covers.ensures.covers x (omega (arith, t.network.edges.ok.0)) (subst (λ (xs : List Row). 0 < needs xs x) c.as_slice.ensures.value n);
+      lent = record {
+        tabled = subst (Tabled t.network) same t.tabled;
+        fits = t.fits;
+        hidden = subst (λ (rows : List Row). CoverNeeds (looked_at (shape_of t.network) rows) (vec_items t.bench.covers)) same
+            (stood_hidden c.args.self.now t c.set_covers.ensures.same c.set_covers.ensures.covers);
+      };
     }
 
 pub returns : goal.returns

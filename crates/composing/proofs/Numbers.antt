@@ -1,11 +1,12 @@
--- The numbers of a deposit as they are linked.
-use Rattle.std.proofs.Common.{◌≡◌, ℕ, ◌+◌, ◌<◌, ◌≤◌, List, [], ◌∷◌, ◌++◌, length, get_or, set, None, refl, ap, ◌∙◌, ⊎_elim, append_assoc, arith, length-append}
+-- The numbers of a deposit as they are linked and written.
+use Rattle.std.proofs.Common.{◌≡◌, ℕ, ◌+◌, ◌<◌, ◌≤◌, List, [], ◌∷◌, ◌++◌, length, get_or, take, set, None, sym, refl, ap, ◌∙◌, ⊎_elim, append_assoc, arith, length-append}
 use Rattle.std.proofs.lemmas.Bool.{cases_eq}
 use Rattle.std.proofs.lemmas.Grind.{common_steps}
-use Rattle.std.proofs.lemmas.List.{get_or_at, drop_at}
+use Rattle.std.specs.List.{flat_map}
+use Rattle.std.proofs.lemmas.List.{flat_map_more, get_or_at, drop_at, take_more}
 use Rattle.layouts.specs.declared.memory.Contribution.{Contribution}
 use Rattle.composing.specs.Composed.{fault_of}
-use Rattle.composing.specs.Deposit.{first_of, next_at}
+use Rattle.composing.specs.Deposit.{first_of, next_at, number_bytes}
 use Rattle.composing.proofs.Fitting.{blank, each_fits}
 
 -- Of the contributions the last ones are linked, and the rest comes before them.
@@ -38,3 +39,10 @@ module _ {xs before : List Contribution} {hs ns : List ℕ} (s : Linking xs befo
         (λ (d : length rest ≡ k → ⊥). grind (arith, common_steps, s.nexts k))
         (cases_eq (length rest) k);
   }
+
+-- one number more is written
+pub written_more : (ns : List ℕ) (i : ℕ) → i < length ns → (before after bytes : List ℕ)
+    → before ≡ flat_map number_bytes (take i ns) → bytes ≡ number_bytes (get_or ns i 0) → after ≡ before ++ bytes
+    → after ≡ flat_map number_bytes (take (i + 1) ns)
+written_more ns i h before after bytes e b a =
+    a ∙ rw (e, b) (flat_map_more number_bytes [] (take i ns) (get_or ns i 0) ∙ ap (flat_map number_bytes) (sym (take_more ns i 0 h)))

@@ -90,14 +90,11 @@ fn list_numbers(
 fn write_numbers(heap: Global, numbers: &[u32]) -> Result<Vec<u8>, AllocError>
     ensures { IfOk result (λ v. v.items ≡ flat_map number_bytes numbers.now) }
 {
-    numbers
-        .iter()
-        .flat_map(
-            |number|
-                ensures { result ≡ number_bytes number.now }
-            { number.to_le_bytes() },
-        )
-        .collect(heap)
+    let mut out = Vec::new(heap);
+    for number in numbers {
+        out.extend_from_slice(&number.to_le_bytes())?;
+    }
+    Ok(out)
 }
 
 // The deposit of the contributions under a layout of so many cells.

@@ -4,17 +4,23 @@ use layouts::admission::MOST_CELLS;
 use layouts::memory::Contribution;
 use office::acts::{Act, LONGEST_PAGE};
 use std::alloc::{AllocError, Global};
-use std::collections::BTreeMap;
 use std::num::ParseIntError;
 use std::str::FromStr;
 use thiserror::Error;
 
-// `looks` has the cells that are looked at after so many acts.
+// A look at a cell, after so many acts.
+#[derive(Clone, Copy)]
+pub struct Look {
+    pub after: usize,
+    pub cell: usize,
+}
+
+// The looks stand in their order, so that those after the same number of acts stand together.
 #[derive(Drop)]
 pub struct Script {
     pub contributions: Vec<Contribution>,
     pub acts: Vec<Act>,
-    pub looks: BTreeMap<usize, Vec<usize>>,
+    pub looks: Vec<Look>,
 }
 
 #[derive(Drop)]
@@ -105,7 +111,7 @@ pub fn read_script(heap: Global, text: &[u8]) -> Result<Script, Fault> {
     let mut script = Script {
         contributions: Vec::new(heap),
         acts: Vec::new(heap),
-        looks: BTreeMap::new(heap),
+        looks: Vec::new(heap),
     };
     let text = std::str::from_utf8(text).map_err(|_| Fault::UnknownLine(2))?;
     for (number, line) in (2usize..).zip(text.lines()) {
@@ -115,11 +121,10 @@ pub fn read_script(heap: Global, text: &[u8]) -> Result<Script, Fault> {
         match read_line(heap, line).map_err(|fault| fault.at(number))? {
             Line::Contributed(x) => script.contributions.push(x)?,
             Line::Acted(act) => script.acts.push(act)?,
-            Line::Looked(cell) => script
-                .looks
-                .entry(script.acts.len())?
-                .or_insert(Vec::new(heap))
-                .push(cell)?,
+            Line::Looked(cell) => script.looks.push(Look {
+                after: script.acts.len(),
+                cell,
+            })?,
         }
     }
     Ok(script)

@@ -84,10 +84,10 @@ fn follow(sheet: &mut Sheet, act: &Act) {
 }
 
 fn tell_looks(rt: &HostRuntime, script: &Script, after: usize, sheet: &Sheet) -> io::Result<()> {
-    if let Some(cells) = script.looks.get(&after) {
-        for cell in cells {
-            tell_cell(rt, *cell, sheet.look(*cell))?;
-        }
+    let first = script.looks.partition_point(|look| look.after < after);
+    let looks = script.looks[first..].iter();
+    for look in looks.take_while(|look| look.after == after) {
+        tell_cell(rt, look.cell, sheet.look(look.cell))?;
     }
     Ok(())
 }

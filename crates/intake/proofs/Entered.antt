@@ -8,7 +8,7 @@ use Rattle.intake.specs.Chains.{Chained, held, leaf_list, amount_list, next_list
 use Rattle.intake.proofs.Links.{latest_push}
 
 -- what holds of each number of a list, and of one more
-each_push : (P : ℕ → Type 0) (xs : List ℕ) (y n : ℕ) → length xs ≡ n → ((i : ℕ) → i < n → P (get_or xs i 0)) → P y → (i : ℕ) → i < n + 1 → P (get_or (xs ++ y ∷ []) i 0)
+pub each_push : (P : ℕ → Type 0) (xs : List ℕ) (y n : ℕ) → length xs ≡ n → ((i : ℕ) → i < n → P (get_or xs i 0)) → P y → (i : ℕ) → i < n + 1 → P (get_or (xs ++ y ∷ []) i 0)
 each_push P xs y n e h p =
     below_more (λ i. P (get_or (xs ++ y ∷ []) i 0)) n
     (λ i lt. subst P (sym (get_or_append_left xs (y ∷ []) 0 i (omega arith))) (h i lt))
@@ -16,14 +16,14 @@ each_push P xs y n e h p =
 
 module _ (leaves : List ℕ) (leaf n : ℕ) (long : length leaves ≡ n) where
   -- the latest of its leaf is the new one
-  latest_same : latest leaf (leaves ++ leaf ∷ []) (n + 1) ≡ Some n
+  pub latest_same : latest leaf (leaves ++ leaf ∷ []) (n + 1) ≡ Some n
   latest_same = rw (add-one, get_or_push leaves leaf 0 n long, eq-eqb leaf leaf refl)
 
   -- and of the other leaves what it was
-  latest_other : (l : ℕ) → (leaf ≡ l → ⊥) → latest l (leaves ++ leaf ∷ []) (n + 1) ≡ latest l leaves n
+  pub latest_other : (l : ℕ) → (leaf ≡ l → ⊥) → latest l (leaves ++ leaf ∷ []) (n + 1) ≡ latest l leaves n
   latest_other l d = rw (add-one, get_or_push leaves leaf 0 n long, ne_eqb leaf l d, latest_push l leaves leaf n (omega arith))
 
-  heads_more : (heads : List (Option ℕ)) → ((l : ℕ) → l < length heads → get_or heads l None ≡ latest l leaves n)
+  pub heads_more : (heads : List (Option ℕ)) → ((l : ℕ) → l < length heads → get_or heads l None ≡ latest l leaves n)
       → (l : ℕ) → l < length heads → get_or (set heads leaf (Some n)) l None ≡ latest l (leaves ++ leaf ∷ []) (n + 1)
   heads_more heads h l lt =
       ⊎_elim
@@ -32,7 +32,7 @@ module _ (leaves : List ℕ) (leaf n : ℕ) (long : length leaves ≡ n) where
       (λ (d : leaf ≡ l → ⊥). let ne : (l ≡ leaf → ⊥) = λ z. d (sym z) in rw (get_or-set_other, latest_other l d) (h l lt))
       (cases_eq leaf l)
 
-  links_more : (nexts : List (Option ℕ)) (next : Option ℕ) → length nexts ≡ n → next ≡ latest leaf leaves n
+  pub links_more : (nexts : List (Option ℕ)) (next : Option ℕ) → length nexts ≡ n → next ≡ latest leaf leaves n
       → ((i : ℕ) → i < n → get_or nexts i None ≡ latest (get_or leaves i 0) leaves i)
       → (i : ℕ) → i < n + 1 → get_or (nexts ++ next ∷ []) i None ≡ latest (get_or (leaves ++ leaf ∷ []) i 0) (leaves ++ leaf ∷ []) i
   links_more nexts next e d h =
@@ -53,7 +53,7 @@ module _ (rs : List Record) (r : Record) where
   amounts_more : amount_list (held (rs ++ r ∷ [])) ≡ amount_list (held rs) ++ r.contribution.amount ∷ []
   amounts_more = ap amount_list held_more ∙ map_push (λ x. x.amount) (held rs) r.contribution
 
-  held_long : length (held rs) ≡ length rs
+  pub held_long : length (held rs) ≡ length rs
   held_long = length-map rs (λ r. r.contribution)
 
   leaves_long : length (leaf_list (held rs)) ≡ length rs

@@ -20,7 +20,7 @@ module _ (rs : List Record) (heads : List (Option ℕ)) (k : Chained rs heads) (
   steps : (get_or (leaf_list (held rs)) at 0 ≡ l) × (chain_amounts l (leaf_list (held rs)) (amount_list (held rs)) (suc at) ≡ get_or (amount_list (held rs)) at 0 ∷ chain_amounts l (leaf_list (held rs)) (amount_list (held rs)) at)
   steps = chain_more l (leaf_list (held rs)) (amount_list (held rs)) (suc at) at own
 
-  next_is : r.next ≡ latest l (leaf_list (held rs)) at
+  pub next_is : r.next ≡ latest l (leaf_list (held rs)) at
   next_is =
       ap (λ r. r.next) is ∙ sym (get_or-map (λ r. r.next) rs at r None inside) ∙ k.linked at inside
       ∙ ap (λ m. latest m (leaf_list (held rs)) at) steps.0

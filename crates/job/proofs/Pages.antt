@@ -1,5 +1,5 @@
 -- What a job's input holds, and the last answer of the run that searches and then prints.
-use Rattle.std.proofs.Common.{◌≡◌, ℕ, ◌*◌, ◌-◌, ◌<◌, ◌≤◌, ⊎_elim, get_or, cond, ◌⊎◌, List, [], ◌∷◌, length, vec_items, vec_len, Some, None, Ok, Err, Option, Result, Vec, sym, refl, subst, ap, ◌∙◌, inl, inr, arith}
+use Rattle.std.proofs.Common.{◌≡◌, ℕ, ◌*◌, ◌-◌, ◌<◌, ◌≤◌, ⊎_elim, get_or, cond, ◌⊎◌, List, [], ◌∷◌, length, vec_items, vec_len, Some, None, Ok, Err, MatchResult, Option, Result, Vec, sym, refl, subst, ap, ◌∙◌, inl, inr, arith}
 use Rattle.std.proofs.lemmas.Bool.{le-ltb}
 use Rattle.std.proofs.lemmas.Bool.Decides.{nat_tests}
 use Rattle.std.specs.declared.alloc.Global.{Global}
@@ -22,7 +22,7 @@ use Rattle.settings.specs.declared.choices.Settings.{Settings}
 use Rattle.intake.specs.Deposit.{deposited}
 use Rattle.settings.specs.Asked.{shape_asked}
 use Rattle.job.specs.Chosen.{meaning_asked}
-use Rattle.job.specs.Job.{figures_asked, too_large}
+use Rattle.job.specs.Job.{figures_asked, page_in, too_large}
 use Rattle.job.proofs.Ranges.{passed_admissible}
 
 -- a print that is not refused as exposed, with memory enough, delivers its page
@@ -42,6 +42,16 @@ holds_page (Ok (Count n)) p e = absurd cc
 holds_page (Ok (Table t)) p e = absurd cc
 holds_page (Err r) p e = absurd cc
 
+-- the page found in an answer is the answer's; else its refusal is handed on, or want of memory stands for what it holds
+pub page_found : (a : Result Answer Refusal) (r : Result (Vec ℕ Global) Refusal) → r ≡ page_in a → MatchResult r (λ p. a ≡ Ok (Page p)) (λ e. (a ≡ Err e) ⊎ (e ≡ OutOfMemory))
+page_found a r e = rw e (cases a)
+  where
+    cases : (a : Result Answer Refusal) → MatchResult (page_in a) (λ p. a ≡ Ok (Page p)) (λ e. (a ≡ Err e) ⊎ (e ≡ OutOfMemory))
+    cases (Err r) = inl refl
+    cases (Ok (Count n)) = inr refl
+    cases (Ok (Page p)) = refl
+    cases (Ok (Table figures)) = inr refl
+
 -- The last of the answers to a search and a print holds the page of the searched standing.
 pub last_page : (F : Figures) (answers : List (Result Answer Refusal)) (last : Option (Result Answer Refusal)) → F.shape.cells ≤ 512
     → Ran F (Search ∷ Print 9728 ∷ []) answers → ((d : Result Answer Refusal) → 0 < length answers → last ≡ Some (get_or answers (length answers - 1) d))
@@ -56,12 +66,12 @@ last_page F (x ∷ y ∷ []) last few ran is =
     (held.0, is x (omega arith) ∙ ap Some held.1, held.2 ∙ ap (page_of F) stood)
 
 -- the office refuses what was not taken in, or for want of memory
-refused_by : (r : Result (List Contribution) Refusal) (e : Refusal) → Refuses r e → (r ≡ Err e) ⊎ (e ≡ OutOfMemory)
+pub refused_by : (r : Result (List Contribution) Refusal) (e : Refusal) → Refuses r e → (r ≡ Err e) ⊎ (e ≡ OutOfMemory)
 refused_by (Ok xs) e h = inr h
 refused_by (Err x) e h = ⊎_elim (λ (is : e ≡ x). inl (ap Err (sym is))) (λ (m : e ≡ OutOfMemory). inr m) h
 
 -- and answers only what was
-answered_by : (s : Shape) (meaning : List ℕ → ℕ) (r : Result (List Contribution) Refusal) (acts : List Act) (answers : List (Result Answer Refusal))
+pub answered_by : (s : Shape) (meaning : List ℕ → ℕ) (r : Result (List Contribution) Refusal) (acts : List Act) (answers : List (Result Answer Refusal))
     → Answers s meaning r acts answers → (xs : List Contribution) × (r ≡ Ok xs) × Ran (figures_by s meaning xs) acts answers
 answered_by s meaning (Ok xs) acts answers ran = (xs, refl, ran)
 answered_by s meaning (Err e) acts answers ran = absurd ran

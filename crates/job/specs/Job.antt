@@ -56,10 +56,9 @@ abbrev pub unless_refused : Option Refusal → Result (Unit {0}) Refusal
 unless_refused None = Ok tt
 unless_refused (Some e) = Err e
 
--- the page in an answer, if one is there and is a page
-abbrev pub page_in : Option (Result Answer Refusal) → Option (Vec ℕ Global)
-page_in None = None
-page_in (Some (Err r)) = None
-page_in (Some (Ok (Count n))) = None
-page_in (Some (Ok (Page page))) = Some page
-page_in (Some (Ok (Table figures))) = None
+-- the page in an answer: a refusal is handed on, and want of memory stands for what is no page
+abbrev pub page_in : Result Answer Refusal → Result (Vec ℕ Global) Refusal
+page_in (Err r) = Err r
+page_in (Ok (Count n)) = Err OutOfMemory
+page_in (Ok (Page page)) = Ok page
+page_in (Ok (Table figures)) = Err OutOfMemory

@@ -1,5 +1,5 @@
 // From the input to the page.
-ghost use Rattle.std.specs.Prelude.{◌≡◌, IsSome, MatchResult};
+ghost use Rattle.std.specs.Prelude.{◌≡◌, IsOk, MatchResult};
 ghost use Rattle.job.specs.Chosen.{shape_of};
 ghost use Rattle.job.specs.Job.{Printed, Refused, page_in, too_large, unless_refused};
 
@@ -27,12 +27,12 @@ fn check_size(layout: &ChosenLayout, size: usize) -> Result<(), Refusal>
 }
 
 // The page in the last answer to a search and a print, which by the law is not refused.
-fn page_of(last: Option<Outcome>) -> Vec<u8>
-    requires { IsSome (page_in last) }
-    ensures { page_in last ≡ Some result }
+fn page_of(last: Outcome) -> Result<Vec<u8>, Refusal>
+    requires { IsOk (page_in last) }
+    ensures { result ≡ page_in last }
 {
-    match last {
-        Some(Ok(Answer::Page(page))) => page,
+    match last? {
+        Answer::Page(page) => Ok(page),
         _ => unreachable!(),
     }
 }
@@ -52,5 +52,5 @@ pub fn suppress(heap: Global, input: &[u8]) -> Result<Vec<u8>, Refusal>
         },
     ];
     let mut answers = run_deposit(heap, &layout, rule, deposit, &acts)?;
-    Ok(page_of(answers.pop()))
+    page_of(answers.pop().unwrap())
 }

@@ -37,8 +37,9 @@ fn read_rule(line: &str) -> Option<RuleSetting> {
 fn judge_input(rt: &HostRuntime) -> Result<Judgement, Fault> {
     let heap = rt.alloc();
     let mut lines = BufReader::new(heap, rt.stdin())?.lines(heap);
-    let first = lines.next().transpose()?;
-    let rule = first.and_then(|line| read_rule(line.as_str()));
+    // After the end no more is read: a terminal would be asked again.
+    let first = lines.next().transpose()?.ok_or(Fault::NoRule)?;
+    let rule = read_rule(first.as_str());
     let mut amounts = Vec::new(heap);
     for (number, line) in (2u64..).zip(lines) {
         let amount = line?

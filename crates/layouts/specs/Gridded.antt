@@ -1,7 +1,7 @@
 -- The laws of a grid.
-use Rattle.std.specs.Prelude.{◌≡◌, ℕ, ◌+◌, ◌*◌, ◌<◌, ◌≤◌, true, false, not, ◌&&◌, List, [], ◌∷◌, ◌==◌, nat_eq, nat_lt}
-use Rattle.std.proofs.Common.{sym, ◌∙◌, arith}
-use Rattle.std.proofs.lemmas.Bool.{and_parts, ltb-true}
+use Rattle.std.specs.Prelude.{◌≡◌, ℕ, ◌+◌, ◌*◌, ◌<◌, ◌≤◌, true, false, not, ◌&&◌, List, [], ◌∷◌, ◌==◌, ◌≢◌, nat_eq, nat_lt}
+use Rattle.std.proofs.Common.{sym, ap, ◌∙◌, arith}
+use Rattle.std.proofs.lemmas.Bool.{and_parts, ltb-true, ne_eqb}
 use Rattle.std.proofs.lemmas.Bool.Decides.{nat_tests}
 use Rattle.std.proofs.lemmas.Nat.{mul-add-lt, div-mul-add, mod-mul-add}
 use Rattle.sums.specs.Sums.{Apart, Within, passing}
@@ -18,6 +18,13 @@ module _ (R C : ℕ) where
 
   place_below : (r c : ℕ) → r ≤ R → c ≤ C → place R C r c < (R + 1) * (C + 1)
   place_below r c h k = omega (arith, mul-add-lt r (C + 1) c (R + 1) (omega arith) (omega arith))
+
+  -- what differs from a place in its row, or in its column, does not stand there
+  off_row : (k r c : ℕ) → c ≤ C → (row R C k ≢ r) → (k == place R C r c) ≡ false
+  off_row k r c h ne = ne_eqb k (place R C r c) (λ e. ne (ap (row R C) e ∙ row_place r c h))
+
+  off_column : (k r c : ℕ) → c ≤ C → (column R C k ≢ c) → (k == place R C r c) ≡ false
+  off_column k r c h ne = ne_eqb k (place R C r c) (λ e. ne (ap (column R C) e ∙ column_place r c h))
 
   -- a leaf stands inside
   inside : (l : ℕ) → is_leaf (grid R C) l ≡ true → (l < (R + 1) * (C + 1)) × (row R C l < R) × (column R C l < C)

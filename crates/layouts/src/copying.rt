@@ -11,8 +11,9 @@ use std::alloc::{AllocError, Global};
 fn copy_marks<L: Layout>(heap: Global, layout: &L, leaf: usize) -> Result<Vec<bool>, AllocError>
     ensures { IfOk result (λ v. v.items ≡ values (L.shape layout.now).cells (marks_of (L.shape layout.now) leaf)) }
 {
-    let mut under = Vec::new(heap);
-    for cell in 0..layout.cells() {
+    let cells = layout.cells();
+    let mut under = Vec::with_capacity(heap, cells)?;
+    for cell in 0..cells {
         under.push(layout.counts(cell, leaf).unwrap_or(false))?;
     }
     Ok(under)
@@ -33,8 +34,9 @@ fn copy_edge<L: Layout>(heap: Global, layout: &L, cell: usize) -> Result<Edge, A
 pub(crate) fn copy_edges<L: Layout>(heap: Global, layout: &L) -> Result<Vec<Edge>, AllocError>
     ensures { IfOk result (λ v. EdgesOf (L.shape layout.now) (L.shape layout.now).cells v.items) }
 {
-    let mut edges = Vec::new(heap);
-    for cell in 0..layout.cells() {
+    let cells = layout.cells();
+    let mut edges = Vec::with_capacity(heap, cells)?;
+    for cell in 0..cells {
         edges.push(copy_edge(heap, layout, cell)?)?;
     }
     Ok(edges)

@@ -111,7 +111,7 @@ answer_made (Err e) m P f is made same = same e ∙ sym (ap answer_of is)
 
 -- MEMORY
 -- more than enough is as good as enough
-cut_test : (memory most size : ℕ) → size ≤ most → ltb (min memory most) size ≡ ltb memory size
+pub cut_test : (memory most size : ℕ) → size ≤ most → ltb (min memory most) size ≡ ltb memory size
 cut_test memory most size l = grind (arith, nat_tests)
 
 module _ (before after : Sheet) (a : Answer) where

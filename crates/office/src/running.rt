@@ -27,7 +27,7 @@ fn run_acts(heap: Global, mut sheet: Sheet, acts: &[Act]) -> Result<Vec<Outcome>
     requires { stands sheet ≡ fresh }
     ensures { IfOk result (λ answers. Ran (figures_of sheet) acts.now answers.items) }
 {
-    let mut answers = Vec::new(heap);
+    let mut answers = Vec::with_capacity(heap, acts.len())?;
     for act in acts {
         answers.push(perform(heap, &mut sheet, act)?)?;
     }

@@ -1,11 +1,13 @@
 -- What the writes into one line leave, and how long a line is.
-use Rattle.std.proofs.Common.{◌≡◌, ℕ, ◌+◌, ◌-◌, ◌^◌, ◌<◌, ◌≤◌, true, List, [], ◌∷◌, ◌++◌, length, take, drop, replicate, set, Some, None, decimal, Option, sym, refl, ap, ◌∙◌, append_assoc, arith, length-append}
+use Rattle.std.proofs.Common.{◌≡◌, ℕ, ◌+◌, ◌-◌, ◌*◌, ◌^◌, ◌<◌, ◌≤◌, true, List, [], ◌∷◌, ◌++◌, length, take, drop, replicate, set, Some, None, decimal, Option, sym, refl, ap, ◌∙◌, append_assoc, arith, length-append}
 use lib.ListN.{length-replicate}
 use Rattle.std.proofs.lemmas.Fmt.{length-decimal-le}
-use Rattle.std.proofs.lemmas.List.{drop-set, take-set, drop_at, take-append-drop, take-append-le, take-replicate}
+use Rattle.std.proofs.lemmas.List.{drop-drop, drop-set, take-set, drop_at, take-append-drop, take-append-le, take-replicate}
 use Rattle.std.proofs.Math.Seq.{take-append-add, drop-append-add}
 use Rattle.std.proofs.lemmas.Bool.{ltb-true}
+use borrow.Rule.Slice.PartMut.{put_mid}
 use Rattle.page.specs.Page.{aligned, figure_text, line, fits}
+use Rattle.page.specs.Writing.{line_over}
 
 pub length_aligned : (fill width : ℕ) (text : List ℕ) → length text ≤ width → length (aligned fill width text) ≡ width
 length_aligned fill width text h = simp (length-append, length-replicate) (omega arith)
@@ -19,7 +21,7 @@ length_cell c h = length_aligned 48 4 (decimal c) (length_number c h)
 pub length_digits : (v : ℕ) → v < 10 ^ 13 → length (decimal v) ≤ 13
 length_digits v h = length-decimal-le 13 v (omega arith) h (omega arith)
 
-length_text : (s : Option ℕ) → fits s ≡ true → length (figure_text s) ≤ 13
+pub length_text : (s : Option ℕ) → fits s ≡ true → length (figure_text s) ≤ 13
 length_text (Some v) h = length_digits v (ltb-true v (10 ^ 13) h)
 length_text None h = omega arith
 
@@ -73,6 +75,13 @@ pub letter_written : (c : ℕ) (old : List ℕ) → c < 10 ^ 4 → old ≡ numbe
 letter_written c old h is =
     let long : 17 < length old = omega (arith, simp (length-append (aligned 48 4 (decimal c))) at (ap length is), length_cell c h) in
     figure_written c 17 None old (set old 17 68) h refl is refl (take-set old 17 68) (drop-set old 17 68 long)
+
+-- the memory around a line
+pub line_over_lem : (c : ℕ) (s : Option ℕ) (memory part : List ℕ) → part ≡ line c s → put_mid (19 * c) (19 * c + 19 - 19 * c) memory part ≡ line_over memory c s
+unfolding line_over
+line_over_lem c s memory part g =
+    let k : 19 * c + 19 - 19 * c ≡ 19 = omega arith in
+    rw (k, g, drop-drop 19 (19 * c) memory)
 
 -- what writing the columns of a line goes by
 pub ruleset columns = (length_number, length_digits, number_written, figure_written, letter_written)

@@ -11,3 +11,4 @@ pub mod Walking
 pub mod Tried
 pub mod Networks
 pub mod Written
+pub mod Lending

@@ -1,4 +1,4 @@
--- One amount more, told last; the first three places of what it makes; and the sum of the first two.
+-- One amount more, told last; the first three places of what it makes; and the sum of the first two, or three.
 use Rattle.std.proofs.Common.{◌≡◌, ℕ, ◌+◌, min, max, List, [], ◌∷◌, ◌++◌, take, refl, sym, arith}
 use Rattle.std.specs.Prelude.{sum, slice_index}
 use Rattle.std.proofs.lemmas.List.Sorted.{IsPermutation-to_front}
@@ -29,3 +29,9 @@ pub sum_two : (d : List ℕ) → sum (take 2 d) ≡ slice_index d 0 + slice_inde
 sum_two [] = refl
 sum_two (x ∷ []) = omega arith
 sum_two (x ∷ y ∷ d) = omega arith
+
+pub sum_three : (d : List ℕ) → sum (take 3 d) ≡ slice_index d 0 + slice_index d 1 + slice_index d 2
+sum_three [] = refl
+sum_three (x ∷ []) = omega arith
+sum_three (x ∷ y ∷ []) = omega arith
+sum_three (x ∷ y ∷ z ∷ d) = omega arith

@@ -1,11 +1,18 @@
 -- `descending` does not depend on the order, and keeps the sum.
-use Rattle.std.specs.Prelude.{◌≡◌, ℕ, zero, suc, ◌+◌, ◌<◌, ◌≤◌, min, max, List, [], ◌∷◌, length, take, sum, slice_index, slice_index_or, slice_set, refl}
-use Rattle.std.proofs.Common.{ap, ◌∙◌, arith, le_of_suc-le-suc, not-suc-le-zero}
+use Rattle.std.specs.Prelude.{◌≡◌, ℕ, zero, suc, ◌+◌, ◌<◌, ◌≤◌, min, max, List, [], ◌∷◌, length, take, sum, slice_index, slice_index_or, slice_set, ◌⊎◌, refl}
+use Rattle.std.proofs.Common.{ap, ◌∙◌, inl, inr, ⊎_elim, arith, le_of_suc-le-suc, not-suc-le-zero}
 use Rattle.std.specs.List.Sorted.{IsPermutation}
 use Rattle.std.specs.List.{swap}
 use Rattle.std.proofs.lemmas.List.Sums.{sum_by-cons, sum_by-take-le}
 use Rattle.std.proofs.lemmas.List.Sorted.{IsPermutation-keeps}
+use Rattle.std.proofs.lemmas.Bool.{cases_lt}
 use Rattle.rules.specs.Largest.{placed, descending, n_largest}
+
+-- of x, y and z the largest goes first; the other two are the same two either way
+others : (x y z : ℕ) → ((min x (max y z) ≡ min y (max x z)) × (min y z ≡ min x z)) ⊎ ((min x (max y z) ≡ min x z) × (min y z ≡ min y (max x z)))
+others x y z =
+    ⊎_elim (λ (h : x < z). ⊎_elim (λ (k : y < z). inr (omega arith, omega arith)) (λ (k : z ≤ y). inr (omega arith, omega arith)) (cases_lt y z))
+    (λ (h : z ≤ x). ⊎_elim (λ (k : y < z). inr (omega arith, omega arith)) (λ (k : z ≤ y). inl (omega arith, omega arith)) (cases_lt y z)) (cases_lt x z)
 
 pub placed_comm : (x y : ℕ) (zs : List ℕ) → placed x (placed y zs) ≡ placed y (placed x zs)
 placed_comm x y [] = grind arith

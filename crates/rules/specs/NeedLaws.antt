@@ -15,7 +15,7 @@ pub largest_le : (xs : List ℕ) → nth_largest 0 xs ≤ sum xs
 largest_le xs = omega (arith, sum_one (descending xs), n_largest_le 1 xs)
 
 -- a quotient rounded up is at most m where the dividend is at most m times the divisor
-div_ceil_le : (a b m : ℕ) → 0 < b → a ≤ m * b → div_ceil a b ≤ m
+pub div_ceil_le : (a b m : ℕ) → 0 < b → a ≤ m * b → div_ceil a b ≤ m
 div_ceil_le a b m pos h =
     let below : div_ceil a b < m + 1 = lt_of_mul-lt-mul_right b (omega (arith, (div_ceil_times a b pos).1, add-mul m 1 b)) in
     omega arith

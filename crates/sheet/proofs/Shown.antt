@@ -30,11 +30,14 @@ shown_mark need figure Complement g = let e = not-true (ltb 0 need) g in rw e
 shown_mark need figure Printed g = let e = not-true (ltb 0 need) g in rw e
 shown_mark need figure Barred g = absurd (false≢true g)
 
+pub shown_at : (s : Sheet) (c : ℕ) → c < (figures_of s).shape.cells → shown_by (mark_at (rows_of s) c) (figures (rows_of s) c) ≡ shown (figures_of s) (stands s) c
+shown_at s c l =
+    rw (lt-ltb c (figures_of s).shape.cells l) (shown_mark (needs (rows_of s) c) (figures (rows_of s) c) (mark_at (rows_of s) c) (tied_at s c l))
+
 -- what a page shows of the row of a cell
 pub row_shown : (s : Sheet) (c : ℕ) → c < (figures_of s).shape.cells → let r = row_at (rows_of s) c in shown_by r.mark r.figure ≡ shown (figures_of s) (stands s) c
 row_shown s c l =
-    rw (← mark_of (rows_of s) c, ← figure_at (rows_of s) c, lt-ltb c (figures_of s).shape.cells l)
-    (shown_mark (needs (rows_of s) c) (figures (rows_of s) c) (mark_at (rows_of s) c) (tied_at s c l))
+    rw (← mark_of (rows_of s) c, ← figure_at (rows_of s) c) (shown_at s c l)
 
 pub sheet_printable : (s : Sheet) → Printable (figures_of s).shape.cells (shown (figures_of s) (stands s))
 sheet_printable s = record {

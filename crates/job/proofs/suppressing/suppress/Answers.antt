@@ -1,5 +1,5 @@
 -- Each refusal is the first that the input meets, and the last answer is the page of the searched table.
-use Rattle.std.proofs.Common.{◌≡◌, length, vec_items, Some, refl, sym, ap, ◌∙◌, ⊎_elim}
+use Rattle.std.proofs.Common.{◌≡◌, length, Some, refl, sym, ap, ◌∙◌, ⊎_elim}
 use Rattle.std.proofs.lemmas.Option.{same_Some}
 use Rattle.std.proofs.lemmas.Result.{err_from_is_err_and}
 use Rattle.settings.specs.Asked.{shape_asked}
@@ -46,11 +46,18 @@ returns-in_err-answers c =
     rw (p.1, p.2) (⊎_elim (λ e. for_deposit s b line ranges e) (λ m. for_memory s b line ranges m)
     (deposit_refused s n (shape_of c.in_ok-layout.layout) lay.1 passed b _ c.in_err-answers.ensures))
 
+pub unwrap-requires : goal.unwrap-requires
+unwrap-requires c =
+    let got = page_printed c.in_ok-settings.settings _ (shape_of c.in_ok-layout.layout) c.in_ok-layout.ensures.1 (size_passed _ _ c.in_ok-check_size.ensures)
+    c.in_ok-settings.deposit.now (meaning_of c.in_ok-rule.rule) c.in_ok-rule.ensures.1 c.in_ok-answers.answers c.pop.result c.in_ok-answers.ensures c.pop.ensures.value in
+    rw got.3 refl
+
 pub page_of-requires : goal.page_of-requires
 page_of-requires c =
     let got = page_printed c.in_ok-settings.settings _ (shape_of c.in_ok-layout.layout) c.in_ok-layout.ensures.1 (size_passed _ _ c.in_ok-check_size.ensures)
     c.in_ok-settings.deposit.now (meaning_of c.in_ok-rule.rule) c.in_ok-rule.ensures.1 c.in_ok-answers.answers c.pop.result c.in_ok-answers.ensures c.pop.ensures.value in
-    rw got.3 refl
+    let held = same_Some _ _ (sym c.unwrap.ensures ∙ got.3) in
+    rw held refl
 
 pub returns : goal.returns
 returns c =
@@ -62,13 +69,13 @@ returns c =
     let passed = size_passed _ _ c.in_ok-check_size.ensures in
     let got = page_printed s n (shape_of c.in_ok-layout.layout) lay.1 passed b (meaning_of c.in_ok-rule.rule) rule.1 c.in_ok-answers.answers c.pop.result
     c.in_ok-answers.ensures c.pop.ensures.value in
-    let same : Some c.page_of.result ≡ Some got.2 = sym c.page_of.ensures ∙ ap page_in got.3 in
-    record {
+    let told = c.page_of.ensures ∙ ap page_in (same_Some _ _ (sym c.unwrap.ensures ∙ got.3)) in
+    rw told (record {
       settings = s;
       rest = b;
       contributions = got.0;
       line = c.in_ok-settings.ensures.reads.0;
       ranges = early_size s n lay.0 rule.0 ∙ ap (λ t. too_large t n) (sym lay.1) ∙ passed;
       deposit = got.1;
-      bytes = ap vec_items (same_Some _ _ same) ∙ got.4;
-    }
+      bytes = got.4;
+    })

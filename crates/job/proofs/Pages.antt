@@ -42,15 +42,15 @@ holds_page (Ok (Count n)) p e = absurd cc
 holds_page (Ok (Table t)) p e = absurd cc
 holds_page (Err r) p e = absurd cc
 
--- the page found in an answer is the answer's; else its refusal is handed on, or want of memory stands for what it holds
-pub page_found : (a : Result Answer Refusal) (r : Result (Vec ℕ Global) Refusal) → r ≡ page_in a → MatchResult r (λ p. a ≡ Ok (Page p)) (λ e. (a ≡ Err e) ⊎ (e ≡ OutOfMemory))
-page_found a r e = rw e (cases a)
-  where
-    cases : (a : Result Answer Refusal) → MatchResult (page_in a) (λ p. a ≡ Ok (Page p)) (λ e. (a ≡ Err e) ⊎ (e ≡ OutOfMemory))
-    cases (Err r) = inl refl
-    cases (Ok (Count n)) = inr refl
-    cases (Ok (Page p)) = refl
-    cases (Ok (Table figures)) = inr refl
+page_in_cases : (a : Result Answer Refusal) → MatchResult (page_in a) (λ p. a ≡ Ok (Page p)) (λ e. e ≡ OutOfMemory)
+page_in_cases (Err r) = refl
+page_in_cases (Ok (Count n)) = refl
+page_in_cases (Ok (Page p)) = refl
+page_in_cases (Ok (Table figures)) = refl
+
+-- the page found in an answer is the answer's, and nothing but OutOfMemory stands for another
+pub page_found : (a : Result Answer Refusal) (r : Result (Vec ℕ Global) Refusal) → r ≡ page_in a → MatchResult r (λ p. a ≡ Ok (Page p)) (λ e. e ≡ OutOfMemory)
+page_found a r e = rw e (page_in_cases a)
 
 -- The last of the answers to a search and a print holds the page of the searched standing.
 pub last_page : (F : Figures) (answers : List (Result Answer Refusal)) (last : Option (Result Answer Refusal)) → F.shape.cells ≤ 512

@@ -56,9 +56,9 @@ abbrev pub unless_refused : Option Refusal → Result (Unit {0}) Refusal
 unless_refused None = Ok tt
 unless_refused (Some e) = Err e
 
--- the page in an answer: a refusal is handed on, and want of memory stands for what is no page
+-- the page in an answer; want of memory stands for what holds none
 abbrev pub page_in : Result Answer Refusal → Result (Vec ℕ Global) Refusal
-page_in (Err r) = Err r
+page_in (Err r) = Err OutOfMemory
 page_in (Ok (Count n)) = Err OutOfMemory
 page_in (Ok (Page page)) = Ok page
 page_in (Ok (Table figures)) = Err OutOfMemory

@@ -38,8 +38,10 @@ fn judge_input(rt: &HostRuntime) -> Result<Judgement, Fault> {
     let heap = rt.alloc();
     let mut lines = BufReader::new(heap, rt.stdin())?.lines(heap);
     // After the end no more is read: a terminal would be asked again.
-    let first = lines.next().transpose()?.ok_or(Fault::NoRule)?;
-    let rule = read_rule(first.as_str());
+    let first = lines.next().transpose()?;
+    let rule = first
+        .map(|line| read_rule(line.as_str()))
+        .ok_or(Fault::NoRule)?;
     let mut amounts = Vec::new(heap);
     for (number, line) in (2u64..).zip(lines) {
         let amount = line?

@@ -8,17 +8,19 @@ use Rattle.layouts.specs.declared.memory.Mark.TheVariants.{Open, Sensitive, Comp
 use Rattle.page.specs.Page.{fits}
 use Rattle.page.specs.Laws.{Printable}
 use Rattle.page.proofs.Pages.{length_page}
+use Rattle.readings.specs.Exposure.{Figures}
 use Rattle.readings.specs.Rows.{figures, needs}
 use Rattle.intake.specs.Marks.{mark_at}
-use Rattle.runs.specs.Acts.{bare, shown, page_of, print, refusal, accepted, page, unless}
+use Rattle.runs.specs.Acts.{Standing, bare, shown, page_of, print, refusal, accepted, page, unless}
 use Rattle.sheet.specs.declared.held.Sheet.{Sheet}
 use Rattle.sheet.specs.declared.events.Event.TheVariants.{PagePrinted}
 use Rattle.sheet.specs.Calls.{shown_by}
 use Rattle.sheet.specs.Cells.{goes_with, row_at}
 use Rattle.sheet.specs.Events.{next_mark}
-use Rattle.sheet.specs.Standing.{is_complement_mark, is_printed_mark}
+use Rattle.sheet.specs.Standing.{is_complement_mark, is_printed_mark, standing_of}
 use Rattle.sheet.specs.Sheets.{rows_of, figures_of, stands, Acted}
-use Rattle.sheet.proofs.Facts.{cells_few, tied_at, small_at}
+use Rattle.sheet.specs.Trying.{SameTable}
+use Rattle.sheet.proofs.Facts.{cells_few, tied_at, small_at, same_table_figures}
 use Rattle.sheet.proofs.Meetings.{MetEach}
 use Rattle.sheet.proofs.Marking.{figure_at, mark_of}
 
@@ -83,6 +85,14 @@ module _ (before after : Sheet) (memory : ℕ) (met : MetEach before (λ _. Page
   stands_printed = λ i. record { complement = λ c. complement_at c i; printed = λ c. printed_at c i }
 
 -- AN ACCEPTED PRINT
+-- the page of the sheet as it stood before trials, where it was written after them
+pub print_page : (s t : Sheet) (before memory : List ℕ) → SameTable s t → memory ≡ page_of (figures_of t) (stands t) ++ drop (19 * (figures_of t).shape.cells) before
+    → memory ≡ page_of (figures_of s) (stands s) ++ drop (19 * (figures_of s).shape.cells) before
+print_page s t before memory same written =
+    written
+    ∙ ap (λ (F : Figures). page_of F (stands t) ++ drop (19 * F.shape.cells) before) (same_table_figures s t same)
+    ∙ ap (λ (st : Standing). page_of (figures_of s) st ++ drop (19 * (figures_of s).shape.cells) before) (ap standing_of same.same_rows)
+
 pub acted_printed : (s after : Sheet) (before memory : List ℕ) (n : ℕ) → refusal (figures_of s) (stands s) (print (length before)) ≡ None
     → memory ≡ page_of (figures_of s) (stands s) ++ drop (19 * (figures_of s).shape.cells) before → MetEach s (λ _. PagePrinted) after
     → n ≡ 19 * (figures_of s).shape.cells → Acted s (print (length before)) (page (take n memory)) after

@@ -8,7 +8,7 @@ use rules::Rule;
 #[derive(Drop)]
 pub struct Chains {
     pub(crate) records: Vec<Record>,
-    pub(crate) heads: Vec<Option<usize>>,
+    pub(crate) heads: Vec<Option<u32>>,
     ghost room: { 2048 ≤ vec_capacity records },
     ghost chained: { Chained records.items heads.items },
 }
@@ -25,7 +25,7 @@ impl Chains {
     {
         let place = self.records.len();
         let next = self.heads[x.leaf];
-        self.heads[x.leaf] = Some(place);
+        self.heads[x.leaf] = Some(place as u32);
         self.records.push_reserved(Record {
             contribution: x,
             next,
@@ -44,7 +44,7 @@ impl Chains {
         let mut sum = 0;
         let mut link = self.heads[leaf];
         while let Some(at) = link {
-            let record = self.records[at];
+            let record = self.records[at as usize];
             let amount = record.contribution.amount;
             let _ = rule.tell(amount);
             sum += amount;

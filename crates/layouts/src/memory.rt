@@ -8,11 +8,11 @@ pub struct Contribution {
     pub amount: u64,
 }
 
-// A contribution as it is kept, with the place of the record before it in the chain of its leaf.
+// A contribution as it is kept, with the place of the record before it in the chain of its leaf: one of 2,048, so that 32 bits hold it.
 #[derive(Clone, Copy)]
 pub struct Record {
     pub contribution: Contribution,
-    pub next: Option<usize>,
+    pub next: Option<u32>,
 }
 
 // How a cell stands: barred only while it is tried.
@@ -60,7 +60,7 @@ pub struct Bench {
 #[derive(Drop)]
 pub struct Memory {
     pub records: Vec<Record>,
-    pub heads: Vec<Option<usize>>,
+    pub heads: Vec<Option<u32>>,
     pub pending: Vec<Contribution>,
     pub seen: Vec<bool>,
     pub rows: Vec<Row>,
